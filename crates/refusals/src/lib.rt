@@ -1,0 +1,45 @@
+// Document 01's table of refusals, the one place that numbers them, and the answer that entries share which write a form.
+ghost use mathlib.Core.Path.{_≡_};
+ghost use Rattle.refusals.specs.Numbers.{numberOf};
+
+pub enum Refusal {
+    BadSize,
+    ShortMemory,
+    Unopened,
+    BadKind,
+    TooLong,
+    NotText,
+    NoTag,
+    ListFull,
+    NoPage,
+    NoBlock,
+    ShortBuffer,
+    HighNumber,
+    CutForm,
+}
+
+// The length written, or why nothing was.
+pub enum Written {
+    Length(usize),
+    Refused(Refusal),
+}
+
+pub fn number(why: Refusal) -> u64
+    ensures { λ r. ⌜ r ≡ numberOf why ⌝ }
+{
+    match why {
+        Refusal::BadSize => 1,
+        Refusal::ShortMemory => 2,
+        Refusal::Unopened => 3,
+        Refusal::BadKind => 4,
+        Refusal::TooLong => 5,
+        Refusal::NotText => 6,
+        Refusal::NoTag => 7,
+        Refusal::ListFull => 8,
+        Refusal::NoPage => 9,
+        Refusal::NoBlock => 10,
+        Refusal::ShortBuffer => 11,
+        Refusal::HighNumber => 12,
+        Refusal::CutForm => 13,
+    }
+}

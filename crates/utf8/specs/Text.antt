@@ -1,0 +1,46 @@
+-- The test for UTF-8, one byte at a time. That it accepts what the grammar derives, and nothing else, is proved in proofs/Grammar.antt.
+-- Assumes nothing.
+use Prim.Native.Nat.{ℕ, _-_}
+use mathlib.Core.Bool.{Bool, false, _&&_, cond}
+use mathlib.Core.List.{[], _∷_}
+use lib.Dec.{eqb, leb}
+use Rattle.slices.specs.Bytes.{Bytes}
+use Rattle.utf8.specs.declared.Step.{Step}
+use Rattle.utf8.specs.declared.Step.the-variants.{Due, Bad}
+
+abbrev pub within : ℕ → ℕ → ℕ → Bool
+within lo hi b = leb lo b && leb b hi
+
+-- `Due n lo hi`: n tail bytes of a character are due, the next one from lo to hi. Between two characters none are.
+abbrev pub between : Step
+between = Due 0 0x80 0xBF
+
+-- What the first byte of a character leaves due.
+unfoldable pub firstOf : ℕ → Step
+firstOf b =
+    cond (within 0x00 0x7F b) between
+    (cond (within 0xC2 0xDF b) (Due 1 0x80 0xBF)
+    (cond (eqb b 0xE0) (Due 2 0xA0 0xBF)
+    (cond (within 0xE1 0xEC b) (Due 2 0x80 0xBF)
+    (cond (eqb b 0xED) (Due 2 0x80 0x9F)
+    (cond (within 0xEE 0xEF b) (Due 2 0x80 0xBF)
+    (cond (eqb b 0xF0) (Due 3 0x90 0xBF)
+    (cond (within 0xF1 0xF3 b) (Due 3 0x80 0xBF)
+    (cond (eqb b 0xF4) (Due 3 0x80 0x8F) Bad))))))))
+
+-- What one more byte leaves due.
+abbrev pub after : Step → ℕ → Step
+after Bad b = Bad
+after (Due n lo hi) b = cond (eqb n 0) (firstOf b) (cond (within lo hi b) (Due (n - 1) 0x80 0xBF) Bad)
+
+abbrev pub noneDue : Step → Bool
+noneDue Bad = false
+noneDue (Due n lo hi) = eqb n 0
+
+-- The bytes end the character that has begun, and are text after it.
+abbrev pub textFrom : Step → Bytes → Bool
+textFrom x [] = noneDue x
+textFrom x (b ∷ s) = textFrom (after x b) s
+
+unfoldable pub isText : Bytes → Bool
+isText s = textFrom between s

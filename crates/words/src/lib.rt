@@ -1,0 +1,75 @@
+// Little-endian numbers in a slice of bytes, at an index that counts them: words of eight bytes, quads of four.
+// The sums of bytes below compile to one load or store.
+ghost use mathlib.Core.Path.{_≡_};
+ghost use Prim.Native.Nat.{_+_, _*_, _≤_, _<_};
+ghost use lib.ListN.{length};
+ghost use Rattle.words.specs.Words.{wordAt, setWord, quadAt, setQuad};
+
+fn wide(x: u8) -> usize
+    ensures { λ r. ⌜ (r ≡ x) × (r < 256) ⌝ }
+{
+    x as usize
+}
+
+// The word at index i.
+pub fn word_at(s: &[u8], i: usize) -> usize
+    requires { ⌜ 8 * i + 8 ≤ length (now s) ⌝ }
+    ensures { λ r. ⌜ r ≡ wordAt (now (s .entry)) i ⌝ }
+{
+    let b = 8 * i;
+    wide(s[b])
+        + wide(s[b + 1]) * 256
+        + wide(s[b + 2]) * 65536
+        + wide(s[b + 3]) * 16777216
+        + wide(s[b + 4]) * 4294967296
+        + wide(s[b + 5]) * 1099511627776
+        + wide(s[b + 6]) * 281474976710656
+        + wide(s[b + 7]) * 72057594037927936
+}
+
+// Puts x at word index i.
+pub fn put_word(s: &mut [u8], i: usize, x: usize)
+    requires { ⌜ 8 * i + 8 ≤ length (now s) ⌝ }
+    ensures { λ _. ⌜ now (s .exit) ≡ setWord (now (s .entry)) i x ⌝ }
+{
+    let b = 8 * i;
+    let x1 = x / 256;
+    let x2 = x1 / 256;
+    let x3 = x2 / 256;
+    let x4 = x3 / 256;
+    let x5 = x4 / 256;
+    let x6 = x5 / 256;
+    let x7 = x6 / 256;
+    s[b] = (x % 256) as u8;
+    s[b + 1] = (x1 % 256) as u8;
+    s[b + 2] = (x2 % 256) as u8;
+    s[b + 3] = (x3 % 256) as u8;
+    s[b + 4] = (x4 % 256) as u8;
+    s[b + 5] = (x5 % 256) as u8;
+    s[b + 6] = (x6 % 256) as u8;
+    s[b + 7] = (x7 % 256) as u8;
+}
+
+// The quad at index i.
+pub fn quad_at(s: &[u8], i: usize) -> usize
+    requires { ⌜ 4 * i + 4 ≤ length (now s) ⌝ }
+    ensures { λ r. ⌜ r ≡ quadAt (now (s .entry)) i ⌝ }
+{
+    let b = 4 * i;
+    wide(s[b]) + wide(s[b + 1]) * 256 + wide(s[b + 2]) * 65536 + wide(s[b + 3]) * 16777216
+}
+
+// Puts x at quad index i: its low 32 bits.
+pub fn put_quad(s: &mut [u8], i: usize, x: usize)
+    requires { ⌜ 4 * i + 4 ≤ length (now s) ⌝ }
+    ensures { λ _. ⌜ now (s .exit) ≡ setQuad (now (s .entry)) i x ⌝ }
+{
+    let b = 4 * i;
+    let x1 = x / 256;
+    let x2 = x1 / 256;
+    let x3 = x2 / 256;
+    s[b] = (x % 256) as u8;
+    s[b + 1] = (x1 % 256) as u8;
+    s[b + 2] = (x2 % 256) as u8;
+    s[b + 3] = (x3 % 256) as u8;
+}
