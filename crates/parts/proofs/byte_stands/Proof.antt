@@ -1,0 +1,34 @@
+-- Past the end no byte stands. Assumes nothing.
+use mathlib.Core.Path.{_≡_, refl}
+use Prim.Native.Nat.{ℕ, _<_, _≤_}
+use mathlib.Core.Bool.{Bool, true, false, _&&_}
+use mathlib.Core.List.{[], _∷_}
+use lib.Dec.{eqb}
+use lib.ListN.{length, getD, take, drop, drop-of-length-le}
+use lib.Seq.{drop-cons}
+use borrow.Author.Needs.{needs}
+use Rattle.slices.specs.Bytes.{Bytes, sameBytes}
+use Rattle.parts.proofs.byte_stands.Statement.{statement}
+use Rattle.parts.proofs.byte_stands.Tie as tie
+
+and-true : (t : Bool) → t ≡ (t && true)
+and-true true = refl
+and-true false = refl
+
+past : (a at : ℕ) (s : Bytes) → length s ≤ at → false ≡ sameBytes (a ∷ []) (take 1 (drop at s))
+past a at s l = rw (drop-of-length-le s l)
+
+inside : (a at : ℕ) (s : Bytes) → at < length s → eqb a (getD s at 0) ≡ sameBytes (a ∷ []) (take 1 (drop at s))
+inside a at s l = rw (drop-cons s at 0) (and-true (eqb a (getD s at 0)))
+
+returns : tie.Need-returns
+returns c = past _ _ _ (c .if1 .taken)
+
+shared-slice-read-result : tie.Need-shared-slice-read-result
+shared-slice-read-result c = search needs
+
+returns-2 : tie.Need-returns-2
+returns-2 c = inside _ _ _ (c .before .if1 .left)
+
+pub byte-stands-spec : {M : Type 1} → statement M
+byte-stands-spec = tie.close (tie.spec returns shared-slice-read-result returns-2)

@@ -1,0 +1,222 @@
+// A part of a name as it is stored: a slice with a mode. The loops that know the modes are here, and no others.
+ghost use mathlib.Core.Path.{_≡_};
+ghost use mathlib.Core.List.{[], _∷_, _++_};
+ghost use Prim.Native.Nat.{_+_, _≤_};
+ghost use lib.ListN.{length, take, drop};
+ghost use lib.Seq.{sets};
+ghost use Rattle.fnv.specs.Fnv.{fnvFrom, fnvStep};
+ghost use Rattle.slices.specs.Bytes.{sameBytes};
+ghost use Rattle.parts.specs.Parts.{escape, escaped, bytesOf, storedBytes};
+
+pub enum Mode {
+    Raw,
+    Escaped,
+}
+
+// One byte as it is stored.
+enum Stored {
+    One(u8),
+    Two(u8, u8),
+}
+
+fn escape_byte(b: u8) -> Stored
+    ensures { λ r. ⌜ storedBytes r ≡ escape b ⌝ }
+{
+    if b == b'\\' {
+        return Stored::Two(b'\\', b'\\');
+    }
+    if b == b'>' {
+        return Stored::Two(b'\\', b'a');
+    }
+    Stored::One(b)
+}
+
+fn width(u: Stored) -> usize
+    ensures { λ r. ⌜ r ≡ length (storedBytes u) ⌝ }
+{
+    match u {
+        Stored::One(_) => 1,
+        Stored::Two(_, _) => 2,
+    }
+}
+
+fn measure_escaped(s: &[u8]) -> usize
+    ensures { λ r. ⌜ r ≡ length (escaped (now (s .entry))) ⌝ }
+{
+    let mut n = 0;
+    let mut i = 0;
+    while i < s.len() {
+        n += width(escape_byte(s[i]));
+        i += 1;
+    }
+    n
+}
+
+// How many bytes are stored.
+pub fn measure(mode: Mode, s: &[u8]) -> usize
+    ensures { λ r. ⌜ r ≡ length (bytesOf mode (now (s .entry))) ⌝ }
+{
+    match mode {
+        Mode::Raw => s.len(),
+        Mode::Escaped => measure_escaped(s),
+    }
+}
+
+// Stores one byte's form at `at`, and gives the position past it.
+fn put_stored(dst: &mut [u8], at: usize, u: Stored) -> usize
+    requires { ⌜ at + length (storedBytes u) ≤ length (now dst) ⌝ }
+    ensures { λ r. ⌜ (r ≡ at + length (storedBytes u)) × (now (dst .exit) ≡ sets (now (dst .entry)) at (storedBytes u)) ⌝ }
+{
+    match u {
+        Stored::One(a) => {
+            dst[at] = a;
+            at + 1
+        }
+        Stored::Two(a, b) => {
+            dst[at] = a;
+            dst[at + 1] = b;
+            at + 2
+        }
+    }
+}
+
+fn write_raw(s: &[u8], dst: &mut [u8])
+    requires { ⌜ length (now s) ≤ length (now dst) ⌝ }
+    ensures { λ _. ⌜ now (dst .exit) ≡ sets (now (dst .entry)) 0 (now (s .entry)) ⌝ }
+{
+    let mut i = 0;
+    while i < s.len() {
+        dst[i] = s[i];
+        i += 1;
+    }
+}
+
+fn write_escaped(s: &[u8], dst: &mut [u8])
+    requires { ⌜ length (escaped (now s)) ≤ length (now dst) ⌝ }
+    ensures { λ _. ⌜ now (dst .exit) ≡ sets (now (dst .entry)) 0 (escaped (now (s .entry))) ⌝ }
+{
+    let mut at = 0;
+    let mut i = 0;
+    while i < s.len() {
+        at = put_stored(dst, at, escape_byte(s[i]));
+        i += 1;
+    }
+}
+
+// Writes the stored bytes at the front of dst, and leaves what is past them.
+pub fn write(mode: Mode, s: &[u8], dst: &mut [u8])
+    requires { ⌜ length (bytesOf mode (now s)) ≤ length (now dst) ⌝ }
+    ensures { λ _. ⌜ now (dst .exit) ≡ bytesOf mode (now (s .entry)) ++ drop (length (bytesOf mode (now (s .entry)))) (now (dst .entry)) ⌝ }
+{
+    match mode {
+        Mode::Raw => write_raw(s, dst),
+        Mode::Escaped => write_escaped(s, dst),
+    }
+}
+
+// One byte more of the hash.
+fn step(h: u32, b: u8) -> u32
+    ensures { λ r. ⌜ r ≡ fnvStep h b ⌝ }
+{
+    fnv::wrapping_mul(h ^ (b as u32), 16777619)
+}
+
+fn hash_stored(h: u32, u: Stored) -> u32
+    ensures { λ r. ⌜ r ≡ fnvFrom h (storedBytes u) ⌝ }
+{
+    match u {
+        Stored::One(a) => step(h, a),
+        Stored::Two(a, b) => step(step(h, a), b),
+    }
+}
+
+fn hash_escaped(start: u32, s: &[u8]) -> u32
+    ensures { λ r. ⌜ r ≡ fnvFrom start (escaped (now (s .entry))) ⌝ }
+{
+    let mut h = start;
+    let mut i = 0;
+    while i < s.len() {
+        h = hash_stored(h, escape_byte(s[i]));
+        i += 1;
+    }
+    h
+}
+
+// The hash `start` taken on over the stored bytes.
+pub fn hash_on(start: u32, mode: Mode, s: &[u8]) -> u32
+    ensures { λ r. ⌜ r ≡ fnvFrom start (bytesOf mode (now (s .entry))) ⌝ }
+{
+    match mode {
+        Mode::Raw => fnv::fnv_from(start, s),
+        Mode::Escaped => hash_escaped(start, s),
+    }
+}
+
+// Whether the byte a stands at `at`.
+fn byte_stands(stored: &[u8], at: usize, a: u8) -> bool
+    ensures { λ r. ⌜ r ≡ sameBytes (a ∷ []) (take 1 (drop at (now (stored .entry)))) ⌝ }
+{
+    if stored.len() <= at {
+        return false;
+    }
+    a == stored[at]
+}
+
+// Whether one byte's form stands at `at`.
+fn stands(stored: &[u8], at: usize, u: Stored) -> bool
+    requires { ⌜ at ≤ length (now stored) ⌝ }
+    ensures { λ r. ⌜ r ≡ sameBytes (storedBytes u) (take (length (storedBytes u)) (drop at (now (stored .entry)))) ⌝ }
+{
+    match u {
+        Stored::One(a) => byte_stands(stored, at, a),
+        Stored::Two(a, b) => {
+            if byte_stands(stored, at, a) {
+                byte_stands(stored, at + 1, b)
+            } else {
+                false
+            }
+        }
+    }
+}
+
+fn same_raw(s: &[u8], stored: &[u8]) -> bool
+    ensures { λ r. ⌜ r ≡ sameBytes (now (s .entry)) (now (stored .entry)) ⌝ }
+{
+    if s.len() != stored.len() {
+        return false;
+    }
+    let mut i = 0;
+    while i < s.len() {
+        if s[i] != stored[i] {
+            return false;
+        }
+        i += 1;
+    }
+    true
+}
+
+fn same_escaped(s: &[u8], stored: &[u8]) -> bool
+    ensures { λ r. ⌜ r ≡ sameBytes (escaped (now (s .entry))) (now (stored .entry)) ⌝ }
+{
+    let mut at = 0;
+    let mut i = 0;
+    while i < s.len() {
+        let u = escape_byte(s[i]);
+        if !stands(stored, at, u) {
+            return false;
+        }
+        at += width(u);
+        i += 1;
+    }
+    at == stored.len()
+}
+
+// Whether the stored bytes are these.
+pub fn same(mode: Mode, s: &[u8], stored: &[u8]) -> bool
+    ensures { λ r. ⌜ r ≡ sameBytes (bytesOf mode (now (s .entry))) (now (stored .entry)) ⌝ }
+{
+    match mode {
+        Mode::Raw => same_raw(s, stored),
+        Mode::Escaped => same_escaped(s, stored),
+    }
+}

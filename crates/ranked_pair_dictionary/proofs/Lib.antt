@@ -1,0 +1,2 @@
+-- Laws of the frequent id.
+pub mod Laws

@@ -1,0 +1,2 @@
+-- Laws of the split.
+pub mod Laws

@@ -1,0 +1,37 @@
+-- Where an IRI is split: after its last '/' or '#'. Assumes nothing.
+use Prim.Native.Nat.{ℕ, zero, suc}
+use mathlib.Core.Bool.{Bool, true, false, _||_}
+use mathlib.Core.List.{[], _∷_}
+use lib.Dec.{eqb}
+use Rattle.slices.specs.Bytes.{Bytes}
+use Rattle.ranked_pair_iri_dv_dict.specs.declared.Head.{Head}
+use Rattle.ranked_pair_iri_dv_dict.specs.declared.Head.the-variants.{Length, Nothing}
+
+-- '/' or '#'.
+abbrev pub isMark : ℕ → Bool
+isMark c = eqb c 47 || eqb c 35
+
+-- One byte more in front: a later mark stays the last one, and with none the byte itself may be it.
+abbrev pub afterMark : Bool → ℕ → ℕ
+afterMark b (suc n) = suc (suc n)
+afterMark true zero = 1
+afterMark false zero = zero
+
+-- The length up to and with the last mark, 0 with none.
+abbrev pub headLength : Bytes → ℕ
+headLength [] = zero
+headLength (c ∷ cs) = afterMark (isMark c) (headLength cs)
+
+-- The answer for a head of n bytes.
+abbrev pub headFrom : ℕ → Head
+headFrom zero = Nothing
+headFrom (suc n) = Length (suc n)
+
+-- What the split answers.
+unfoldable pub headOf : Bytes → Head
+headOf s = headFrom (headLength s)
+
+-- An answer as a number: the length of the head, which is empty where there is none.
+abbrev pub lengthOf : Head → ℕ
+lengthOf Nothing = 0
+lengthOf (Length n) = n
