@@ -1,0 +1,42 @@
+-- The sizes of a dictionary's memory and their ranges, as document 01 has them. Assumes nothing.
+use Prim.Native.Nat.{ℕ, _+_, _*_, _^_, _≤_}
+use mathlib.Core.Bool.{Bool, _&&_, cond}
+use lib.Dec.{leb}
+use Rattle.layout.specs.declared.Sizes.{Sizes}
+use Rattle.layout.specs.declared.Made.{Made}
+use Rattle.layout.specs.declared.Made.the-variants.{Fit, BadSize}
+
+abbrev pub between : ℕ → ℕ → ℕ → Bool
+between lo hi x = leb lo x && leb x hi
+
+-- Page width p, pages n, list length e, block width w, blocks b.
+unfoldable pub inRange : Sizes → Bool
+inRange s = between 13 20 (s .p) && (between 1 1024 (s .n) && (between 1 1048576 (s .e) && (between 4 24 (s .w) && between 1 4096 (s .b))))
+
+-- The same as facts.
+pub record InRange (s : Sizes) : Type 0 where
+  pub p : (13 ≤ s .p) × (s .p ≤ 20)
+  pub n : (1 ≤ s .n) × (s .n ≤ 1024)
+  pub e : (1 ≤ s .e) × (s .e ≤ 1048576)
+  pub w : (4 ≤ s .w) × (s .w ≤ 24)
+  pub b : (1 ≤ s .b) × (s .b ≤ 4096)
+
+unfoldable pub made : Sizes → Made
+made s = cond (inRange s) (Fit s) BadSize
+
+-- How many kinds and dictionaries there are.
+abbrev pub kinds : ℕ
+kinds = 4
+
+abbrev pub dictionaries : ℕ
+dictionaries = 6
+
+-- How many bytes `pages` and `lists` need.
+unfoldable pub pageSize : Sizes → ℕ
+pageSize s = 2 ^ s .p
+
+unfoldable pub pageBytes : Sizes → ℕ
+pageBytes s = s .n * pageSize s
+
+unfoldable pub listBytes : Sizes → ℕ
+listBytes s = 8 * (64 + s .n + 18 * s .e + 5 * s .b)

@@ -1,0 +1,62 @@
+-- Document 01's bench cards M1 to M8, computed together on the definitions that the contracts cite. Assumes nothing.
+use Prim.Native.Nat.{ℕ, _^_}
+use mathlib.Core.Path.{_≡_, refl}
+use mathlib.Core.Bool.{true, false}
+use mathlib.Core.List.{List, [], _∷_, _++_}
+use lib.ListN.{replicate, length}
+use Rattle.slices.specs.Bytes.{Bytes}
+use Rattle.limits.specs.Limits.{nameLimit}
+use Rattle.utf8.specs.Text.{firstOf, isText}
+use Rattle.parts.specs.Parts.{escape, escaped}
+use Rattle.refusals.specs.declared.Refusal.the-variants.{HighNumber}
+use Rattle.refusals.specs.declared.Written.the-variants.{Length, Refused}
+use Rattle.ranked_pair_iri_dv_dict.specs.Split.{headOf, lengthOf}
+use Rattle.ranked_pair_dictionary.specs.FrequentId.{furtherBytes, frequentId, fid, writeRefusal, writeAnswer, writeBuffer}
+use Rattle.string_dv_dict.specs.Packed.{packed, pairRefusal}
+use Rattle.string_dv_dict.specs.Answers.{packAnswer, packBuffer}
+
+-- ASCII text.
+abbrev http : Bytes
+http = 104 ∷ 116 ∷ 116 ∷ 112 ∷ 58 ∷ 47 ∷ 47 ∷ 112 ∷ 47 ∷ 97 ∷ 35 ∷ 98 ∷ []
+
+abbrev press : Bytes
+press = 117 ∷ 114 ∷ 110 ∷ 58 ∷ 112 ∷ 114 ∷ 101 ∷ 115 ∷ 115 ∷ []
+
+-- A buffer of n bytes as found.
+abbrev found : ℕ → Bytes
+found n = replicate n 170
+
+-- 127 times 'a', then '>'.
+abbrev longTag : Bytes
+longTag = replicate 127 97 ++ 62 ∷ []
+
+pub record Cards : Type 0 where
+  -- M1 `http://p/a#b`, M2 `a/`, M3 `urn:press`: the head's length.
+  pub m1-m3 : lengthOf (headOf http) ∷ lengthOf (headOf (97 ∷ 47 ∷ [])) ∷ lengthOf (headOf press) ∷ [] ≡ 11 ∷ 2 ∷ 0 ∷ []
+  -- M4 leads of 63, 64, 16,383 and 16,384, in a buffer of 5 bytes.
+  pub m4 : writeBuffer 63 (found 5) ∷ writeBuffer 64 (found 5) ∷ writeBuffer 16383 (found 5) ∷ writeBuffer 16384 (found 5) ∷ []
+      ≡ (63 ∷ found 4) ∷ (64 ∷ 64 ∷ found 3) ∷ (127 ∷ 255 ∷ found 3) ∷ (128 ∷ 64 ∷ 0 ∷ found 2) ∷ []
+  -- M5 the lead of 4,194,304; 2^30 gives 12.
+  pub m5 : writeBuffer 4194304 (found 5) ≡ 192 ∷ 64 ∷ 0 ∷ 0 ∷ found 1
+  pub m5-answers : writeAnswer 4194304 5 ∷ writeAnswer (2 ^ 30) 5 ∷ [] ≡ Length 4 ∷ Refused HighNumber ∷ []
+  -- M6 text `Ein`, tag `de`.
+  pub m6 : packBuffer (69 ∷ 105 ∷ 110 ∷ []) (100 ∷ 101 ∷ []) (found 7) ≡ 2 ∷ 100 ∷ 101 ∷ 69 ∷ 105 ∷ 110 ∷ found 1
+  -- M7 a tag of 127 'a' and '>', text empty.
+  pub m7 : packBuffer [] longTag (found 131) ≡ 0 ∷ replicate 127 97 ++ 92 ∷ 97 ∷ 62 ∷ []
+  pub m7-answer : packAnswer [] longTag 131 ≡ Length 131
+  -- M8 text: yes; no, no, no.
+  pub m8 : isText (244 ∷ 143 ∷ 191 ∷ 191 ∷ []) ∷ isText (192 ∷ 128 ∷ []) ∷ isText (237 ∷ 160 ∷ 128 ∷ []) ∷ isText (244 ∷ 144 ∷ 128 ∷ 128 ∷ []) ∷ []
+      ≡ true ∷ false ∷ false ∷ false ∷ []
+
+pub cards : Cards
+unfolding nameLimit firstOf isText escape escaped headOf furtherBytes frequentId fid writeRefusal writeAnswer writeBuffer packed pairRefusal packAnswer packBuffer
+cards = record {
+  m1-m3 = refl;
+  m4 = refl;
+  m5 = refl;
+  m5-answers = refl;
+  m6 = refl;
+  m7 = refl;
+  m7-answer = refl;
+  m8 = refl;
+}

@@ -1,0 +1,105 @@
+-- The answer and the buffer that each way through packing and unpacking comes to. Assumes nothing.
+use Prim.Native.Nat.{ℕ, _+_, _≤_, _<_}
+use mathlib.Core.Path.{_≡_, refl, sym, ap, _∙_}
+use mathlib.Core.Bool.{true, false}
+use mathlib.Core.List.{_∷_, _++_}
+use mathlib.Core.Option.{Option, none, some}
+use native.Mathlib.Omega.{arith}
+use lib.ListN.{length, drop, length-append}
+use borrow.Author.Tests.{lt-ltb, le-ltb, le-leb, lt-leb}
+use Rattle.slices.specs.Bytes.{Bytes}
+use Rattle.limits.specs.Limits.{packedLimit}
+use Rattle.parts.specs.Parts.{escaped}
+use Rattle.refusals.specs.declared.Refusal.{Refusal}
+use Rattle.refusals.specs.declared.Refusal.the-variants.{TooLong, ShortBuffer, CutForm}
+use Rattle.refusals.specs.declared.Written.the-variants as W
+use Rattle.string_dv_dict.specs.declared.Checked.the-variants.{Legal, Illegal}
+use Rattle.string_dv_dict.specs.declared.Unpacked.{Unpacked}
+use Rattle.string_dv_dict.specs.declared.Unpacked.the-variants.{Lengths, Refused}
+use Rattle.string_dv_dict.specs.Packed.{packed, pairRefusal, accepted, textIn, tagIn}
+use Rattle.string_dv_dict.specs.Answers.{checkedBy, packAnswer, packBuffer, unpackAnswer, unpackBuffer}
+
+-- ---- the check of a text and a tag
+
+pub told-legal : (o : Option Refusal) → checkedBy o ≡ Legal → o ≡ none
+told-legal none e = refl
+told-legal (some why) e = let z : _≡_ {A = ℕ} 0 1 = cc in absurd (omega arith)
+
+pub told-illegal : (o : Option Refusal) (why : Refusal) → checkedBy o ≡ Illegal why → o ≡ some why
+told-illegal none why e = let z : _≡_ {A = ℕ} 0 1 = cc in absurd (omega arith)
+told-illegal (some r) why e = cc
+
+-- ---- packing
+
+module _ (text tag : Bytes) where
+  packed-short : length tag ≤ 127 → packed text tag ≡ length tag ∷ tag ++ text
+  unfolding packed
+  packed-short h = rw (le-leb (length tag) 127 h)
+
+  packed-long : 127 < length tag → packed text tag ≡ 0 ∷ escaped tag ++ 62 ∷ text
+  unfolding packed
+  packed-long h = rw (lt-leb (length tag) 127 h)
+
+  pub length-short : length tag ≤ 127 → 1 + length tag + length text ≡ length (packed text tag)
+  length-short h = rw (packed-short h) (simp length-append (omega arith))
+
+  pub length-long : 127 < length tag → 2 + length (escaped tag) + length text ≡ length (packed text tag)
+  length-long h = rw (packed-long h) (simp length-append (omega arith))
+
+  module _ (buffer : Bytes) where
+    pub placed-short : length tag ≤ 127
+        → (length tag ∷ tag ++ text) ++ drop (1 + length tag + length text) buffer ≡ packed text tag ++ drop (length (packed text tag)) buffer
+    placed-short h =
+        ap (λ (f : Bytes). f ++ drop (1 + length tag + length text) buffer) (sym (packed-short h))
+        ∙ ap (λ (n : ℕ). packed text tag ++ drop n buffer) (length-short h)
+
+    pub placed-long : 127 < length tag
+        → (0 ∷ escaped tag ++ 62 ∷ text) ++ drop (2 + length (escaped tag) + length text) buffer ≡ packed text tag ++ drop (length (packed text tag)) buffer
+    placed-long h =
+        ap (λ (f : Bytes). f ++ drop (2 + length (escaped tag) + length text) buffer) (sym (packed-long h))
+        ∙ ap (λ (n : ℕ). packed text tag ++ drop n buffer) (length-long h)
+
+    pub pack-refused : (why : Refusal) → pairRefusal text tag ≡ some why
+        → (packAnswer text tag (length buffer) ≡ W.Refused why) × (packBuffer text tag buffer ≡ buffer)
+    unfolding packAnswer packBuffer
+    pack-refused why e = rw e (refl, refl)
+
+    pub pack-no-room : pairRefusal text tag ≡ none → length buffer < length (packed text tag)
+        → (packAnswer text tag (length buffer) ≡ W.Refused ShortBuffer) × (packBuffer text tag buffer ≡ buffer)
+    unfolding packAnswer packBuffer
+    pack-no-room e h = rw (e, lt-ltb _ _ h) (refl, refl)
+
+    pub pack-done : pairRefusal text tag ≡ none → length (packed text tag) ≤ length buffer
+        → (packAnswer text tag (length buffer) ≡ W.Length (length (packed text tag)))
+        × (packBuffer text tag buffer ≡ packed text tag ++ drop (length (packed text tag)) buffer)
+    unfolding packAnswer packBuffer
+    pack-done e h = rw (e, le-ltb _ _ h) (refl, refl)
+
+-- ---- unpacking
+
+module _ (form buffer : Bytes) where
+  pub unpack-long-form : packedLimit < length form
+      → (unpackAnswer form (length buffer) ≡ Refused TooLong) × (unpackBuffer form buffer ≡ buffer)
+  unfolding unpackAnswer unpackBuffer
+  unpack-long-form h = rw (lt-ltb _ _ h) (refl, refl)
+
+  module _ (l : length form ≤ packedLimit) where
+    pub unpack-cut : accepted form ≡ false
+        → (unpackAnswer form (length buffer) ≡ Refused CutForm) × (unpackBuffer form buffer ≡ buffer)
+    unfolding unpackAnswer unpackBuffer
+    unpack-cut e = rw (le-ltb _ _ l, e) (refl, refl)
+
+    pub unpack-no-room : accepted form ≡ true → length buffer < length (textIn form) + length (tagIn form)
+        → (unpackAnswer form (length buffer) ≡ Refused ShortBuffer) × (unpackBuffer form buffer ≡ buffer)
+    unfolding unpackAnswer unpackBuffer
+    unpack-no-room e h = rw (le-ltb _ _ l, e, lt-ltb _ _ h) (refl, refl)
+
+    pub unpack-done : accepted form ≡ true → length (textIn form) + length (tagIn form) ≤ length buffer
+        → (unpackAnswer form (length buffer) ≡ Lengths (length (textIn form)) (length (tagIn form)))
+        × (unpackBuffer form buffer ≡ (textIn form ++ tagIn form) ++ drop (length (textIn form ++ tagIn form)) buffer)
+    unfolding unpackAnswer unpackBuffer
+    unpack-done e h = rw (le-ltb _ _ l, e, le-ltb _ _ h) (refl, refl)
+
+-- Both lengths, said of the parts that were cut out.
+pub lengths : {m m' n n' : ℕ} {u : Unpacked} → m ≡ m' → n ≡ n' → u ≡ Lengths m' n' → Lengths m n ≡ u
+lengths e f g = cc

@@ -1,0 +1,7 @@
+-- Laws that belong to no one function.
+pub mod Escapes
+pub mod Text
+pub mod Laws
+pub mod Writes
+pub mod Answers
+pub mod Located

@@ -1,0 +1,57 @@
+-- A tagged string packed into one byte string (Nemo's two_strings_to_one), and which forms are packed. Assumes nothing.
+use Prim.Native.Nat.{ℕ, _+_}
+use mathlib.Core.Bool.{Bool, true, false, _&&_, not, cond}
+use mathlib.Core.List.{[], _∷_, _++_}
+use mathlib.Core.Option.{Option, none, some}
+use lib.Dec.{eqb, leb, ltb}
+use lib.ListN.{length, take, drop}
+use Rattle.slices.specs.Bytes.{Bytes, isEmpty, sameBytes}
+use Rattle.limits.specs.Limits.{nameLimit}
+use Rattle.utf8.specs.Text.{isText}
+use Rattle.parts.specs.Parts.{escaped}
+use Rattle.refusals.specs.declared.Refusal.{Refusal}
+use Rattle.refusals.specs.declared.Refusal.the-variants.{TooLong, NotText, NoTag}
+
+-- A tag of up to 127 bytes: length byte, tag, text. A longer one: 0, the tag escaped, '>', text.
+unfoldable pub packed : Bytes → Bytes → Bytes
+packed text tag = cond (leb (length tag) 127) (length tag ∷ tag ++ text) (0 ∷ escaped tag ++ 62 ∷ text)
+
+-- Why a text and a tag are no tagged string.
+unfoldable pub pairRefusal : Bytes → Bytes → Option Refusal
+pairRefusal text tag =
+    cond (ltb nameLimit (length text + length tag)) (some TooLong)
+    (cond (not (isText text && isText tag)) (some NotText)
+    (cond (isEmpty tag) (some NoTag) none))
+
+-- ---- the parts that a form can only have
+
+-- The bytes before the first '>', and those behind it.
+unfoldable pub before : Bytes → Bytes
+before [] = []
+before (c ∷ s) = cond (eqb c 62) [] (c ∷ before s)
+
+unfoldable pub behind : Bytes → Bytes
+behind [] = []
+behind (c ∷ s) = cond (eqb c 62) s (behind s)
+
+-- '\a' as '>', '\\' as '\'; true: after a '\'.
+unfoldable pub unescaped : Bool → Bytes → Bytes
+unescaped b [] = []
+unescaped true (c ∷ s) = cond (eqb c 97) 62 92 ∷ unescaped false s
+unescaped false (c ∷ s) = cond (eqb c 92) (unescaped true s) (c ∷ unescaped false s)
+
+unfoldable pub tagIn : Bytes → Bytes
+tagIn [] = []
+tagIn (n ∷ s) = cond (eqb n 0) (unescaped false (before s)) (take n s)
+
+unfoldable pub textIn : Bytes → Bytes
+textIn [] = []
+textIn (n ∷ s) = cond (eqb n 0) (behind s) (drop n s)
+
+abbrev pub isLegal : Option Refusal → Bool
+isLegal none = true
+isLegal (some why) = false
+
+-- Accepted is exactly what packing makes of a legal text and tag.
+unfoldable pub accepted : Bytes → Bool
+accepted form = isLegal (pairRefusal (textIn form) (tagIn form)) && sameBytes (packed (textIn form) (tagIn form)) form

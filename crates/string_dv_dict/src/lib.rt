@@ -1,0 +1,313 @@
+// Tagged strings packed into one byte string (Nemo's string_dv_dict.rs), and unpacked again.
+use parts::Mode;
+use refusals::Refusal;
+use refusals::Written;
+ghost use mathlib.Core.Path.{_≡_};
+ghost use mathlib.Core.List.{_∷_, _++_};
+ghost use mathlib.Core.Bool.{false, cond};
+ghost use mathlib.Core.Option.{none};
+ghost use Prim.Native.Nat.{_+_, _^_, _≤_, _<_};
+ghost use lib.Dec.{eqb};
+ghost use lib.ListN.{length, drop, getD};
+ghost use lib.Seq.{sets};
+ghost use Rattle.string_dv_dict.specs.Packed.{packed, pairRefusal, before, unescaped};
+ghost use Rattle.string_dv_dict.specs.Answers.{checkedBy, packAnswer, packBuffer, unpackAnswer, unpackBuffer};
+ghost use Rattle.limits.specs.Limits.{packedLimit};
+ghost use Rattle.parts.specs.Parts.{escaped, bytesOf};
+ghost use Rattle.string_dv_dict.specs.Scans.{scanStep, scanFrom, scanned, Located, ShortForm, LongForm};
+
+// Whether a text and a tag are a tagged string, or why not.
+pub enum Checked {
+    Legal,
+    Illegal(Refusal),
+}
+
+// Both lengths, or why nothing was written.
+pub enum Unpacked {
+    Lengths { text: usize, tag: usize },
+    Refused(Refusal),
+}
+
+// The bytes of an escaped tag so far: how many bytes of the tag they are, and whether a '\' still wants its second byte.
+enum Scan {
+    Plain(usize),
+    Escape(usize),
+    Bad,
+}
+
+// Where a packed form's parts lie. Short: the tag's length. Long: how long the escaped tag is, and the tag itself.
+enum Form {
+    Short(usize),
+    Long(usize, usize),
+    Cut,
+}
+
+// Refusals 5, 6, 7 of a text and a tag.
+pub fn check_pair(text: &[u8], tag: &[u8]) -> Checked
+    ensures { λ r. ⌜ r ≡ checkedBy (pairRefusal (now (text .entry)) (now (tag .entry))) ⌝ }
+{
+    if limits::name_limit() < text.len() + tag.len() {
+        return Checked::Illegal(Refusal::TooLong);
+    }
+    if !utf8::is_text(text) {
+        return Checked::Illegal(Refusal::NotText);
+    }
+    if !utf8::is_text(tag) {
+        return Checked::Illegal(Refusal::NotText);
+    }
+    if tag.len() == 0 {
+        return Checked::Illegal(Refusal::NoTag);
+    }
+    Checked::Legal
+}
+
+// ---- packing
+
+fn packed_length(text: &[u8], tag: &[u8]) -> usize
+    requires { ⌜ pairRefusal (now text) (now tag) ≡ none ⌝ }
+    ensures { λ r. ⌜ r ≡ length (packed (now (text .entry)) (now (tag .entry))) ⌝ }
+{
+    if tag.len() <= 127 {
+        1 + tag.len() + text.len()
+    } else {
+        2 + parts::measure(Mode::Escaped, tag) + text.len()
+    }
+}
+
+// Writes the stored bytes at `at`.
+fn write_at(mode: Mode, s: &[u8], dst: &mut [u8], at: usize)
+    requires { ⌜ at + length (bytesOf mode (now s)) ≤ length (now dst) ⌝ }
+    ensures { λ _. ⌜ now (dst .exit) ≡ sets (now (dst .entry)) at (bytesOf mode (now (s .entry))) ⌝ }
+{
+    parts::write(mode, s, &mut dst[at..]);
+}
+
+fn write_short(text: &[u8], tag: &[u8], buffer: &mut [u8])
+    requires { ⌜ (length (now tag) ≤ 127) × (1 + length (now tag) + length (now text) ≤ length (now buffer)) ⌝ }
+    ensures { λ _. ⌜ now (buffer .exit) ≡ (length (now (tag .entry)) ∷ now (tag .entry) ++ now (text .entry)) ++ drop (1 + length (now (tag .entry)) + length (now (text .entry))) (now (buffer .entry)) ⌝ }
+{
+    let n = tag.len();
+    buffer[0] = n as u8;
+    write_at(Mode::Raw, tag, buffer, 1);
+    write_at(Mode::Raw, text, buffer, n + 1);
+}
+
+fn write_long(text: &[u8], tag: &[u8], buffer: &mut [u8])
+    requires { ⌜ 2 + length (escaped (now tag)) + length (now text) ≤ length (now buffer) ⌝ }
+    ensures { λ _. ⌜ now (buffer .exit) ≡ (0 ∷ escaped (now (tag .entry)) ++ 62 ∷ now (text .entry)) ++ drop (2 + length (escaped (now (tag .entry))) + length (now (text .entry))) (now (buffer .entry)) ⌝ }
+{
+    let end = 1 + parts::measure(Mode::Escaped, tag);
+    buffer[0] = 0;
+    write_at(Mode::Escaped, tag, buffer, 1);
+    buffer[end] = b'>';
+    write_at(Mode::Raw, text, buffer, end + 1);
+}
+
+// Packs a text and its tag at the buffer's start.
+pub fn two_strings_to_one(text: &[u8], tag: &[u8], buffer: &mut [u8]) -> Written
+    ensures { λ r. ⌜ (r ≡ packAnswer (now (text .entry)) (now (tag .entry)) (length (now (buffer .entry)))) × (now (buffer .exit) ≡ packBuffer (now (text .entry)) (now (tag .entry)) (now (buffer .entry))) ⌝ }
+{
+    let checked = check_pair(text, tag);
+    if let Checked::Illegal(why) = checked {
+        return Written::Refused(why);
+    }
+    let n = packed_length(text, tag);
+    if buffer.len() < n {
+        return Written::Refused(Refusal::ShortBuffer);
+    }
+    if tag.len() <= 127 {
+        write_short(text, tag, buffer);
+    } else {
+        write_long(text, tag, buffer);
+    }
+    Written::Length(n)
+}
+
+// ---- unpacking
+
+// How many bytes stand before the first '>'.
+fn find_end(s: &[u8]) -> usize
+    ensures { λ r. ⌜ r ≡ length (before (now (s .entry))) ⌝ }
+{
+    let mut i = 0;
+    while i < s.len() {
+        if s[i] == b'>' {
+            return i;
+        }
+        i += 1;
+    }
+    i
+}
+
+fn scan_byte(state: Scan, c: u8) -> Scan
+    requires { ⌜ scanned state + 1 < 2 ^ 64 ⌝ }
+    ensures { λ r. ⌜ r ≡ scanStep state c ⌝ }
+{
+    match state {
+        Scan::Plain(n) => {
+            if c == b'>' {
+                return Scan::Bad;
+            }
+            if c == b'\\' {
+                return Scan::Escape(n);
+            }
+            Scan::Plain(n + 1)
+        }
+        Scan::Escape(n) => {
+            if c == b'\\' {
+                return Scan::Plain(n + 1);
+            }
+            if c == b'a' {
+                return Scan::Plain(n + 1);
+            }
+            Scan::Bad
+        }
+        Scan::Bad => Scan::Bad,
+    }
+}
+
+fn scan_tag(s: &[u8]) -> Scan
+    ensures { λ r. ⌜ r ≡ scanFrom (Scan.Plain 0) (now (s .entry)) ⌝ }
+{
+    let mut state = Scan::Plain(0);
+    let mut i = 0;
+    while i < s.len() {
+        state = scan_byte(state, s[i]);
+        i += 1;
+    }
+    state
+}
+
+fn locate_short(form: &[u8]) -> Form
+    requires { ⌜ (0 < length (now form)) × (0 < getD (now form) 0 0) ⌝ }
+    ensures { λ r. ⌜ Located (now (form .entry)) r ⌝ }
+{
+    let n = form[0] as usize;
+    if 127 < n {
+        return Form::Cut;
+    }
+    if form.len() < n + 1 {
+        return Form::Cut;
+    }
+    let checked = check_pair(&form[n + 1..], &form[1..n + 1]);
+    let Checked::Legal = checked else {
+        return Form::Cut;
+    };
+    Form::Short(n)
+}
+
+fn locate_long(form: &[u8]) -> Form
+    requires { ⌜ (0 < length (now form)) × (getD (now form) 0 0 ≡ 0) ⌝ }
+    ensures { λ r. ⌜ Located (now (form .entry)) r ⌝ }
+{
+    let s = &form[1..];
+    let end = find_end(s);
+    if end == s.len() {
+        return Form::Cut;
+    }
+    let Scan::Plain(n) = scan_tag(&s[..end]) else {
+        return Form::Cut;
+    };
+    if n <= 127 {
+        return Form::Cut;
+    }
+    let text = &s[end + 1..];
+    if limits::name_limit() < text.len() + n {
+        return Form::Cut;
+    }
+    if !utf8::is_text(text) {
+        return Form::Cut;
+    }
+    // Escaping changes no character into another, so the tag is text exactly if its escaped form is.
+    if !utf8::is_text(&s[..end]) {
+        return Form::Cut;
+    }
+    Form::Long(end, n)
+}
+
+// Where the parts of a packed form lie; Cut where packing makes no such form.
+fn locate(form: &[u8]) -> Form
+    ensures { λ r. ⌜ Located (now (form .entry)) r ⌝ }
+{
+    if form.len() == 0 {
+        return Form::Cut;
+    }
+    if form[0] == 0 {
+        locate_long(form)
+    } else {
+        locate_short(form)
+    }
+}
+
+// The byte that is escaped as '\' and c.
+fn unescape_byte(c: u8) -> u8
+    ensures { λ r. ⌜ r ≡ cond (eqb c 97) 62 92 ⌝ }
+{
+    if c == b'a' { b'>' } else { b'\\' }
+}
+
+// Writes an escaped tag at `start`, its escapes undone.
+fn write_unescaped(s: &[u8], dst: &mut [u8], start: usize)
+    requires { ⌜ start + length (unescaped false (now s)) ≤ length (now dst) ⌝ }
+    ensures { λ _. ⌜ now (dst .exit) ≡ sets (now (dst .entry)) start (unescaped false (now (s .entry))) ⌝ }
+{
+    let mut at = start;
+    let mut behind = false;
+    let mut i = 0;
+    while i < s.len() {
+        let c = s[i];
+        i += 1;
+        if behind {
+            dst[at] = unescape_byte(c);
+            at += 1;
+            behind = false;
+        } else if c == b'\\' {
+            behind = true;
+        } else {
+            dst[at] = c;
+            at += 1;
+        }
+    }
+}
+
+fn unpack_short(form: &[u8], n: usize, buffer: &mut [u8]) -> Unpacked
+    requires { ⌜ (length (now form) ≤ packedLimit) × ShortForm (now form) n ⌝ }
+    ensures { λ r. ⌜ (r ≡ unpackAnswer (now (form .entry)) (length (now (buffer .entry)))) × (now (buffer .exit) ≡ unpackBuffer (now (form .entry)) (now (buffer .entry))) ⌝ }
+{
+    let text = &form[n + 1..];
+    let m = text.len();
+    if buffer.len() < m + n {
+        return Unpacked::Refused(Refusal::ShortBuffer);
+    }
+    write_at(Mode::Raw, text, buffer, 0);
+    write_at(Mode::Raw, &form[1..n + 1], buffer, m);
+    Unpacked::Lengths { text: m, tag: n }
+}
+
+fn unpack_long(form: &[u8], end: usize, n: usize, buffer: &mut [u8]) -> Unpacked
+    requires { ⌜ (length (now form) ≤ packedLimit) × LongForm (now form) end n ⌝ }
+    ensures { λ r. ⌜ (r ≡ unpackAnswer (now (form .entry)) (length (now (buffer .entry)))) × (now (buffer .exit) ≡ unpackBuffer (now (form .entry)) (now (buffer .entry))) ⌝ }
+{
+    let text = &form[end + 2..];
+    let m = text.len();
+    if buffer.len() < m + n {
+        return Unpacked::Refused(Refusal::ShortBuffer);
+    }
+    write_at(Mode::Raw, text, buffer, 0);
+    write_unescaped(&form[1..end + 1], buffer, m);
+    Unpacked::Lengths { text: m, tag: n }
+}
+
+// Unpacks a form: the text at the buffer's start, the tag behind it.
+pub fn one_string_to_two(form: &[u8], buffer: &mut [u8]) -> Unpacked
+    ensures { λ r. ⌜ (r ≡ unpackAnswer (now (form .entry)) (length (now (buffer .entry)))) × (now (buffer .exit) ≡ unpackBuffer (now (form .entry)) (now (buffer .entry))) ⌝ }
+{
+    if limits::packed_limit() < form.len() {
+        return Unpacked::Refused(Refusal::TooLong);
+    }
+    match locate(form) {
+        Form::Short(n) => unpack_short(form, n, buffer),
+        Form::Long(end, n) => unpack_long(form, end, n, buffer),
+        Form::Cut => Unpacked::Refused(Refusal::CutForm),
+    }
+}

@@ -1,0 +1,16 @@
+// Runs published vectors and boundary cases through the exported leaf entries and prints what they answer.
+// What is right stands in the file stdout.
+mod hash;
+mod ids;
+mod packing;
+mod show;
+mod split;
+mod text;
+
+fn main() {
+    text::run();
+    split::run();
+    ids::run();
+    packing::run();
+    hash::run();
+}
