@@ -1,8 +1,9 @@
--- Document 01's bench cards M1 to M8, computed together on the definitions that the contracts cite. Assumes nothing.
+-- Document 01's bench cards M1 to M11, computed together on the definitions that the contracts cite. Assumes nothing.
 use Prim.Native.Nat.{ℕ, _^_}
 use mathlib.Core.Path.{_≡_, refl}
 use mathlib.Core.Bool.{true, false}
 use mathlib.Core.List.{List, [], _∷_, _++_}
+use mathlib.Core.Option.{none, some}
 use lib.ListN.{replicate, length}
 use Rattle.slices.specs.Bytes.{Bytes}
 use Rattle.limits.specs.Limits.{nameLimit}
@@ -12,6 +13,9 @@ use Rattle.refusals.specs.declared.Refusal.the-variants.{HighNumber}
 use Rattle.refusals.specs.declared.Written.the-variants.{Length, Refused}
 use Rattle.ranked_pair_iri_dv_dict.specs.Split.{headOf, lengthOf}
 use Rattle.ranked_pair_dictionary.specs.FrequentId.{furtherBytes, frequentId, fid, writeRefusal, writeAnswer, writeBuffer}
+use Rattle.layout.specs.declared.Sizes.{Sizes}
+use Rattle.meta_dv_dict.specs.Rule.{blockRule}
+use Rattle.meta_dv_dict.proofs.Checks.{m9-m10-m11}
 use Rattle.string_dv_dict.specs.Packed.{packed, pairRefusal}
 use Rattle.string_dv_dict.specs.Answers.{packAnswer, packBuffer}
 
@@ -30,6 +34,17 @@ found n = replicate n 170
 abbrev longTag : Bytes
 longTag = replicate 127 97 ++ 62 ∷ []
 
+-- Block width 4, b blocks.
+abbrev sizes : ℕ → Sizes
+sizes b = record { p = 13; n = 4; e = 100; w = 4; b = b }
+
+-- n IRIs; and n strings after 65 of them, newest first.
+abbrev iris : ℕ → List ℕ
+iris n = replicate n 0
+
+abbrev strings : ℕ → List ℕ
+strings n = replicate n 1 ++ iris 65
+
 pub record Cards : Type 0 where
   -- M1 `http://p/a#b`, M2 `a/`, M3 `urn:press`: the head's length.
   pub m1-m3 : lengthOf (headOf http) ∷ lengthOf (headOf (97 ∷ 47 ∷ [])) ∷ lengthOf (headOf press) ∷ [] ≡ 11 ∷ 2 ∷ 0 ∷ []
@@ -47,6 +62,12 @@ pub record Cards : Type 0 where
   -- M8 text: yes; no, no, no.
   pub m8 : isText (244 ∷ 143 ∷ 191 ∷ 191 ∷ []) ∷ isText (192 ∷ 128 ∷ []) ∷ isText (237 ∷ 160 ∷ 128 ∷ []) ∷ isText (244 ∷ 144 ∷ 128 ∷ 128 ∷ []) ∷ []
       ≡ true ∷ false ∷ false ∷ false ∷ []
+  -- M9 the 17th, 33rd, 49th and 65th IRI. M10 then the 1st, 17th and 33rd string. M11 the 65th IRI with B 7: none, which gives 10.
+  pub m9-m11 : blockRule (sizes 8) (iris 16) 0 ∷ blockRule (sizes 8) (iris 32) 0
+      ∷ blockRule (sizes 8) (iris 48) 0 ∷ blockRule (sizes 8) (iris 64) 0
+      ∷ blockRule (sizes 8) (iris 65) 1 ∷ blockRule (sizes 8) (strings 16) 1 ∷ blockRule (sizes 8) (strings 32) 1
+      ∷ blockRule (sizes 7) (iris 64) 0 ∷ []
+      ≡ some 16 ∷ some 32 ∷ some 64 ∷ some 112 ∷ some 48 ∷ some 80 ∷ some 96 ∷ none ∷ []
 
 pub cards : Cards
 unfolding nameLimit firstOf isText escape escaped headOf furtherBytes frequentId fid writeRefusal writeAnswer writeBuffer packed pairRefusal packAnswer packBuffer
@@ -59,4 +80,5 @@ cards = record {
   m7 = refl;
   m7-answer = refl;
   m8 = refl;
+  m9-m11 = m9-m10-m11;
 }

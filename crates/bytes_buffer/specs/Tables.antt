@@ -1,0 +1,37 @@
+-- Which words hold which spaces: facts that a program could check, of the words W by their index. Assumes nothing.
+use Prim.Native.Nat.{ℕ, zero, suc, _<_, _≤_}
+use mathlib.Core.Path.{_≡_}
+use Rattle.layout.specs.declared.Sizes.{Sizes}
+use Rattle.layout.specs.Sizes.{dictionaries, pageSize}
+use Rattle.layout.specs.Fields.{untakenAt, currentAt, takenAt, pageAt, ownerOf, usedOf, positionOf}
+use Rattle.bytes_buffer.specs.Pages.{Space, allPages}
+use Rattle.bytes_buffer.specs.Spots.{currentOf}
+
+-- A taken page's word: a dictionary owns the page, and no more of it is used than there is.
+pub record Owned (s : Sizes) (w : ℕ) : Type 0 where
+  pub least : 1 ≤ ownerOf w
+  pub most : ownerOf w ≤ dictionaries
+  pub inside : usedOf w ≤ pageSize s
+
+-- Dictionary d, which has pages: the current one is the last of them.
+pub record CurrentPage (sp : ℕ → Space) (W : ℕ → ℕ) (d : ℕ) : Type 0 where
+  pub some : 1 ≤ W (currentAt d)
+  pub below : W (currentAt d) ≤ allPages sp
+  pub owner : ownerOf (W (pageAt (currentOf W d))) ≡ suc d
+  pub used : usedOf (W (pageAt (currentOf W d))) ≡ sp d .used
+  pub place : suc (positionOf (W (pageAt (currentOf W d)))) ≡ sp d .taken
+
+pub record PagesAt (s : Sizes) (sp : ℕ → Space) (W : ℕ → ℕ) : Type 0 where
+  -- the untaken pages are those from one number up, and their words are 0
+  pub lowest : W untakenAt ≡ allPages sp
+  pub room : allPages sp ≤ s .n
+  pub owned : (i : ℕ) → i < allPages sp → Owned s (W (pageAt i))
+  pub free : (i : ℕ) → allPages sp ≤ i → i < s .n → W (pageAt i) ≡ zero
+  -- each dictionary's own words
+  pub count : (d : ℕ) → d < dictionaries → W (takenAt d) ≡ sp d .taken
+  pub without : (d : ℕ) → d < dictionaries → sp d .taken ≡ zero → (W (currentAt d) ≡ zero) × (sp d .used ≡ zero)
+  pub current : (d : ℕ) → d < dictionaries → 0 < sp d .taken → CurrentPage sp W d
+  -- its pages have positions below their number, and only the current one has the last
+  pub order : (d i : ℕ) → d < dictionaries → i < allPages sp → ownerOf (W (pageAt i)) ≡ suc d → positionOf (W (pageAt i)) < sp d .taken
+  pub last : (d i : ℕ) → d < dictionaries → i < allPages sp → ownerOf (W (pageAt i)) ≡ suc d → suc (positionOf (W (pageAt i))) ≡ sp d .taken
+      → W (currentAt d) ≡ suc i

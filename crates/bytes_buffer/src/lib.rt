@@ -1,0 +1,121 @@
+// Pages: who owns one, how far it is used, and where the next entry goes. The pages' own bytes are written elsewhere.
+ghost use mathlib.Core.Path.{_≡_};
+ghost use Prim.Native.Nat.{_+_, _*_, _≤_, _<_};
+ghost use lib.ListN.{length};
+ghost use Rattle.words.specs.Words.{wordAt};
+ghost use Rattle.layout.specs.Sizes.{InRange, dictionaries, pageSize, listBytes};
+ghost use Rattle.layout.specs.Fields.{untakenAt, pageAt};
+ghost use Rattle.bytes_buffer.specs.Spots.{lowestOf, nextOf, spotIn, InPages, extended, tookPage};
+use layout::Sizes;
+
+// Where the words of `lists` lie: the lowest untaken page.
+const UNTAKEN: usize = 6;
+
+// Dictionary 0's current page + 1. Each further dictionary's stands 4 words on.
+const CURRENT: usize = 17;
+
+// How many pages dictionary 0 has, and so on.
+const TAKEN: usize = 18;
+
+// Page 0: its owner + 16 × its used bytes + 2^25 × its position among its dictionary's pages.
+const PAGES: usize = 64;
+
+const OWNERS: usize = 16;
+
+const USED: usize = 2097152;
+
+const POSITION: usize = 33554432;
+
+// Where an entry goes: behind what the current page has, or to the front of the lowest untaken page.
+pub enum Spot {
+    Current { page: usize, offset: usize },
+    Next(usize),
+    NoPage,
+    // The words are no dictionary's.
+    Bad,
+}
+
+pub enum Lowest {
+    Page(usize),
+    Bad,
+}
+
+// The lowest untaken page; n where none is left.
+pub fn untaken(lists: &[u8], s: Sizes) -> Lowest
+    requires { ⌜ InRange s × (listBytes s ≤ length (now lists)) ⌝ }
+    ensures { λ r. ⌜ r ≡ lowestOf s (wordAt (now (lists .entry)) untakenAt) ⌝ }
+{
+    let w = words::word_at(lists, UNTAKEN);
+    let n = s.n;
+    if w <= n {
+        return Lowest::Page(w);
+    }
+    Lowest::Bad
+}
+
+// One more page, if one is left.
+fn next(s: Sizes, untaken: usize) -> Spot
+    ensures { λ r. ⌜ r ≡ nextOf s untaken ⌝ }
+{
+    let n = s.n;
+    if untaken < n {
+        return Spot::Next(untaken);
+    }
+    Spot::NoPage
+}
+
+// Where an entry of len bytes goes in dictionary d. It only reads: one add may plan two entries, the second with the next untaken page.
+pub fn plan(lists: &[u8], s: Sizes, d: usize, untaken: usize, len: usize) -> Spot
+    requires { ⌜ InRange s × (listBytes s ≤ length (now lists)) ⌝ }
+    requires { ⌜ (d < dictionaries) × (len ≤ pageSize s) ⌝ }
+    ensures { λ r. ⌜ (r ≡ spotIn s (wordAt (now (lists .entry))) d untaken len) × InPages s untaken len r ⌝ }
+{
+    let current = words::word_at(lists, CURRENT + 4 * d);
+    if current == 0 {
+        return next(s, untaken);
+    }
+    let n = s.n;
+    if n < current {
+        return Spot::Bad;
+    }
+    let page = current - 1;
+    let used = words::word_at(lists, PAGES + page) / OWNERS % USED;
+    let size = layout::page_size(s);
+    if size < used {
+        return Spot::Bad;
+    }
+    if used + len <= size {
+        return Spot::Current { page, offset: used };
+    }
+    next(s, untaken)
+}
+
+// The page is used up to here; its owner and its position stay.
+pub fn extend(lists: &mut [u8], page: usize, used: usize)
+    requires { ⌜ (8 * pageAt page + 8 ≤ length (now lists)) × (used < 2097152) ⌝ }
+    ensures { λ _. ⌜ now (lists .exit) ≡ extended (now (lists .entry)) page used ⌝ }
+{
+    let w = words::word_at(lists, PAGES + page);
+    words::put_word(
+        lists,
+        PAGES + page,
+        w % OWNERS + OWNERS * used + POSITION * (w / POSITION),
+    );
+}
+
+// The page becomes the current one of dictionary d, used up to here; the lowest untaken page is the one after it.
+pub fn take_page(lists: &mut [u8], d: usize, page: usize, used: usize)
+    requires { ⌜ (8 * pageAt page + 8 ≤ length (now lists)) × (d < dictionaries) × (used < 2097152) ⌝ }
+    ensures { λ _. ⌜ now (lists .exit) ≡ tookPage (now (lists .entry)) d page used ⌝ }
+{
+    // A dictionary has fewer than 1,024 pages where one is left, so the remainder is the number itself.
+    let taken = words::word_at(lists, TAKEN + 4 * d) % 1024;
+    words::put_word(
+        lists,
+        PAGES + page,
+        d + 1 + OWNERS * used + POSITION * taken,
+    );
+    words::put_word(lists, TAKEN + 4 * d, taken + 1);
+    words::put_word(lists, CURRENT + 4 * d, page + 1);
+    words::put_word(lists, UNTAKEN, page + 1);
+}

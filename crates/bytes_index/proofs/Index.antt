@@ -1,0 +1,101 @@
+-- What memory that holds a dictionary's entries says of a search in it. Assumes nothing.
+use mathlib.Core.Path.{_≡_, _∙_, sym, ap, subst}
+use mathlib.Core.Logic.{_≢_}
+use mathlib.Core.Option.{some}
+use Prim.Native.Nat.{ℕ, _+_, _-_, _*_, _≤_, _<_}
+use native.Mathlib.Omega.{arith}
+use native.Mathlib.Decide.{decLt}
+use lib.ListN.{length}
+use lib.Seq.{ext-getD}
+use Rattle.slices.specs.Bytes.{Bytes}
+use Rattle.fnv.specs.Fnv.{fnvOf}
+use Rattle.layout.specs.declared.Sizes.{Sizes}
+use Rattle.layout.specs.Sizes.{pageSize}
+use Rattle.layout.specs.Fields.{pageOf, offsetOf, sizeOf}
+use Rattle.bytes_index.specs.Place.{place}
+use Rattle.bytes_index.specs.Entries.{Entries, used, Stands, Met, Holds, Misses}
+use Rattle.bytes_index.proofs.Place.{place-onto}
+use Rattle.bytes_index.proofs.Filled.{filled-le, filled-all}
+
+-- An entry word stands for one byte string.
+pub stands-once : (s : Sizes) (B : ℕ → ℕ) (w : ℕ) (a b : Bytes) → Stands s B w a → Stands s B w b → a ≡ b
+stands-once s B w a b p q =
+    let e : length a ≡ length b = sym (p .sized) ∙ q .sized in
+    ext-getD 0 a b e (λ i l. sym (p .bytes i l) ∙ q .bytes i (omega arith))
+
+-- A place that the search went past is filled, and its entry is not the key.
+abbrev pub Passed : Sizes → (ℕ → ℕ) → (ℕ → ℕ) → Bytes → ℕ → Type 0
+Passed s B W key q = (q ≢ 0) × (Stands s B (W (q - 1)) key → ⊥)
+
+-- What the code read of a place, as `Passed` of the step.
+pub passed : (s : Sizes) (B W Q : ℕ → ℕ) (key : Bytes) (m h t j q : ℕ) → place m h t ≡ j → q ≡ Q j → q ≢ 0
+    → (Stands s B (W (q - 1)) key → ⊥) → Passed s B W key (Q (place m h t))
+passed s B W Q key m h t j q p r z n =
+    let f : q ≡ Q (place m h t) = rw p r in
+    subst (Passed s B W key) f (z, n)
+
+module _ (s : Sizes) (B W Q : ℕ → ℕ) (es : Entries) (H : Holds s B W Q es) where
+  -- A filled place names an entry in use, whose word stands for it.
+  pub record Named (j : ℕ) : Type 0 where
+    pub key : Bytes
+    pub in-use : es (Q j - 1) ≡ some key
+    pub below : Q j - 1 < s .e
+    pub stands : Stands s B (W (Q j - 1)) key
+
+  pub named : (j : ℕ) → j < 2 * s .e → Q j ≢ 0 → Named j
+  named j l z =
+      let k = H .names j l z in
+      let e = H .entry (Q j - 1) (k .0) (k .1) in
+      record { key = k .0; in-use = k .1; below = e .0; stands = e .1 }
+
+  pub hit : (j : ℕ) (key : Bytes) → j < 2 * s .e → Q j ≢ 0 → Stands s B (W (Q j - 1)) key → es (Q j - 1) ≡ some key
+  hit j key l z t =
+      let k = named j l z in
+      let e : k .key ≡ key = stands-once s B (W (Q j - 1)) (k .key) key (k .stands) t in
+      k .in-use ∙ ap some e
+
+  -- No place names an entry past the last.
+  pub never-past : (j : ℕ) → j < 2 * s .e → s .e < Q j → ⊥
+  never-past j l z = omega (arith, named j l (omega arith) .below)
+
+  -- An entry that the index names lies in one page.
+  pub never-out : (j : ℕ) → j < 2 * s .e → Q j ≢ 0
+      → (pageOf (W (Q j - 1)) < s .n) × (offsetOf (W (Q j - 1)) + sizeOf (W (Q j - 1)) ≤ pageSize s)
+  never-out j l z = let k = named j l z in (k .stands .paged, k .stands .inside)
+
+  -- There is always an empty place: twice as many places as entries.
+  pub never-full : 1 ≤ s .e → (h : ℕ) → ((k : ℕ) → k < 2 * s .e → Q (place (2 * s .e) h k) ≢ 0) → ⊥
+  never-full p h f =
+      omega (
+        arith,
+        H .count,
+        filled-le (λ i. used (es i)) (s .e),
+        filled-all Q (2 * s .e) (λ j l. let v = place-onto (2 * s .e) h j l in subst (λ (x : ℕ). Q x ≢ 0) (v .here) (f (v .step) (v .near))),
+      )
+
+  -- The first empty place, with no entry that is the key before it: there is none anywhere.
+  pub missed : (key : Bytes) (t j : ℕ) → t < 2 * s .e → place (2 * s .e) (fnvOf key) t ≡ j → Q j ≡ 0
+      → ((k : ℕ) → k < t → Passed s B W key (Q (place (2 * s .e) (fnvOf key) k))) → Misses s Q es key j
+  missed key t j l e z p = record { absent = none-is; free = record { step = t; near = l; here = e; empty = z; full = λ k g. p k g .0 } }
+    where
+      z′ : Q (place (2 * s .e) (fnvOf key) t) ≡ 0
+      z′ = rw e z
+
+      none-is : (i : ℕ) → es i ≡ some key → ⊥
+      none-is i q = go (decLt (M .step) t) (decLt t (M .step))
+        where
+          M : Met Q (2 * s .e) (fnvOf key) i
+          M = H .met i key q
+
+          S : Stands s B (W i) key
+          S = H .entry i key q .1
+
+          go : Dec (M .step < t) → Dec (t < M .step) → ⊥
+          go (yes a) b =
+              let f : i ≡ Q (place (2 * s .e) (fnvOf key) (M .step)) - 1 = omega (arith, M .there) in
+              p (M .step) a .1 (subst (λ (x : ℕ). Stands s B (W x) key) f S)
+          go (no a) (yes b) = M .full t b z′
+          go (no a) (no b) =
+              let f : M .step ≡ t = omega arith in
+              let c : Q (place (2 * s .e) (fnvOf key) t) ≡ i + 1 = subst (λ (x : ℕ). Q (place (2 * s .e) (fnvOf key) x) ≡ i + 1) f (M .there) in
+              omega (arith, z′)

@@ -1,0 +1,359 @@
+-- The probe loop's invariant: the places passed are filled, and none names an entry that is the key. The inner loop's: the bytes passed are
+-- equal. Assumes nothing.
+use mathlib.Core.Path.{_≡_, refl, sym, _∙_, ap, subst}
+use mathlib.Core.Logic.{⊎-elim}
+use mathlib.Core.Option.{some}
+use Prim.Native.Nat.{ℕ, _+_, _-_, _*_, _%_, _≤_, _<_}
+use denote.Enum.Declared.{tagOf}
+use borrow.Author.Needs.{needs}
+use borrow.Author.Count.{below-more}
+use native.Mathlib.Omega.{arith}
+use native.Mathlib.Nat.{mod-lt}
+use native.Mathlib.Decide.{decLt}
+use lib.ListN.{length, getD}
+use Rattle.slices.specs.Bytes.{Bytes}
+use Rattle.words.specs.Words.{wordAt, quadAt}
+use Rattle.fnv.specs.Fnv.{fnvOf}
+use Rattle.layout.specs.declared.Sizes.{Sizes}
+use Rattle.layout.specs.Sizes.{pageSize, pageBytes}
+use Rattle.layout.specs.Fields.{entryAt, placeAt, pageOf, offsetOf, sizeOf}
+use Rattle.layout.proofs.Places.{dict-within, list-bytes}
+use Rattle.layout.proofs.Ranges.{page-bytes}
+use Rattle.bytes_index.specs.declared.Span.{Span}
+use Rattle.bytes_index.specs.declared.Span.the-variants.{At, Bad}
+use Rattle.bytes_index.specs.Place.{place}
+use Rattle.bytes_index.specs.Entries.{Stands}
+use Rattle.bytes_index.specs.Field.{entryField, Inside}
+use Rattle.bytes_index.specs.Search.{keyOf}
+use Rattle.bytes_index.proofs.Span.{the-type}
+use Rattle.bytes_index.proofs.Place.{place-zero, place-next}
+use Rattle.bytes_index.proofs.Index.{Passed, passed, hit, never-past, never-out, never-full, missed}
+use Rattle.bytes_index.proofs.Stored.{field-in, front-sized, not-front, not-byte, all-bytes}
+use Rattle.bytes_index.proofs.bytes_to_id.Statement.{statement}
+use Rattle.bytes_index.proofs.bytes_to_id.Tie as tie
+
+-- The memory as functions.
+abbrev B : Bytes → ℕ → ℕ
+B pages a = getD pages a 0
+
+abbrev W : Bytes → Sizes → ℕ → ℕ → ℕ
+W lists s d i = wordAt lists (entryAt s d i)
+
+abbrev Q : Bytes → Sizes → ℕ → ℕ → ℕ
+Q lists s d j = quadAt lists (placeAt s d j)
+
+abbrev Inv-loop : tie.InvT-loop
+Inv-loop pages lists s d lead mode tag rest e m places measured n j t w at len end left₀ left =
+    (left ≤ n) × ((k : ℕ) → left < k → k ≤ n → getD pages (end - k) 0 ≡ getD rest (n - k) 0)
+
+abbrev μ-loop : tie.MeasureT-loop
+μ-loop pages lists s d lead mode tag rest e m places measured n j t w at len end left₀ left = left
+
+abbrev Inv-probe : tie.InvT-probe
+Inv-probe pages lists s d lead mode tag rest e m places measured n j₀ t₀ w₀ j t w =
+    (t ≤ m)
+    × (j < m)
+    × (place m (fnvOf (keyOf lead mode tag rest)) t ≡ j)
+    × ((k : ℕ) → k < t → Passed s (B pages) (W lists s d) (keyOf lead mode tag rest) (Q lists s d (place m (fnvOf (keyOf lead mode tag rest)) k)))
+
+abbrev μ-probe : tie.MeasureT-probe
+μ-probe pages lists s d lead mode tag rest e m places measured n j₀ t₀ w₀ j t w = m - t
+
+-- ---- places of the code, seen from later ones
+
+-- The function's start, from a turn's.
+abbrev entered : tie.At-probe Inv-loop μ-loop Inv-probe μ-probe → tie.Start Inv-loop μ-loop Inv-probe μ-probe
+entered c = c .before .before .before .before .before .before .before .before .before .before
+
+-- A turn's start, from where the entry's bytes are known.
+abbrev turn : tie.After-known-told Inv-loop μ-loop Inv-probe μ-probe → tie.At-probe Inv-loop μ-loop Inv-probe μ-probe
+turn c = c .before .before .before .before .before .before .before .before
+
+-- ---- what was read
+
+-- The place.
+quad : (c : tie.After-quad-at Inv-loop μ-loop Inv-probe μ-probe)
+    → let a = entered (c .before .before) .args in c .quad-at .result ≡ Q (a .lists .now) (a .s) (a .d) (c .before .before .probe .j)
+quad c =
+    let a = entered (c .before .before) .args in
+    c .quad-at .ensures
+    ∙ ap (λ (x : ℕ). quadAt (a .lists .now) (2 * (x + 2 * a .s .e) + c .before .before .probe .j)) (c .before .before .before .before .before .before .dict-at .ensures)
+
+-- The entry, and where its bytes lie.
+field : (c : tie.After-known-told Inv-loop μ-loop Inv-probe μ-probe)
+    → let a = entered (turn c) .args in
+    entryField (a .s) (W (a .lists .now) (a .s) (a .d) (c .before .before .before .before .before .before .quad-at .result - 1))
+    ≡ At (c .before .at .given .0 .0) (c .before .at .given .0 .1 .0)
+field c = sym (c .before .before .before .entry .ensures .field) ∙ c .before .at .given .1
+
+inside : (c : tie.After-known-told Inv-loop μ-loop Inv-probe μ-probe) → c .before .at .given .0 .0 + c .before .at .given .0 .1 .0 ≤ pageBytes (entered (turn c) .args .s)
+inside c = subst (Inside (entered (turn c) .args .s)) (c .before .at .given .1) (c .before .before .before .entry .ensures .inside)
+
+ends : (c : tie.After-known-told Inv-loop μ-loop Inv-probe μ-probe) → c .before .at .given .0 .0 + c .before .at .given .0 .1 .0 ≤ length (entered (turn c) .args .pages .now)
+ends c = omega (arith, inside c, entered (turn c) .pre .pages-fit)
+
+-- The rest is not longer than the entry.
+rest-in : (c : tie.Then4 Inv-loop μ-loop Inv-probe μ-probe)
+    → length (entered (turn (c .before .before .before)) .args .rest .now) ≤ c .before .before .before .before .at .given .0 .1 .0
+rest-in c = omega (arith, front-sized _ _ _ _ _ (ends (c .before .before .before)) (sym (c .before .front-is .ensures) ∙ c .if4 .taken))
+
+-- What the let .. else leaves.
+bad : (r : Span) → tagOf the-type r ≡ 1 → r ≡ Bad
+bad (At a n) e = absurd (omega arith)
+bad Bad e = refl
+
+-- An entry that lies in one page is not Bad.
+never-bad : (s : Sizes) (v : ℕ) → pageOf v < s .n → offsetOf v + sizeOf v ≤ pageSize s → entryField s v ≡ Bad → ⊥
+never-bad s v p q f =
+    let g : entryField s v ≡ At _ _ = field-in s v p q in
+    let z : _≡_ {A = ℕ} 0 1 = cc in
+    omega arith
+
+-- One byte more compared, with `left` bytes left before it.
+more : (left n : ℕ) (P : ℕ → Type 0) → 0 < left → ((k : ℕ) → left < k → k ≤ n → P k) → P left → (k : ℕ) → left - 1 < k → k ≤ n → P k
+more left n P z h p k l u = go (decLt left k)
+  where
+    go : Dec (left < k) → P k
+    go (yes g) = h k g u
+    go (no g) = let e : left ≡ k = omega arith in subst P e p
+
+-- ---- the needs
+
+mul-m : tie.Need-mul-m Inv-loop μ-loop Inv-probe μ-probe
+mul-m c = omega arith
+
+dict-at-requires : tie.Need-dict-at-requires Inv-loop μ-loop Inv-probe μ-probe
+dict-at-requires c κs = search needs
+
+add-places : tie.Need-add-places Inv-loop μ-loop Inv-probe μ-probe
+add-places c = let z = c .before .before .before .before .before .before in omega (arith, c .dict-at .ensures, dict-within (z .args .s) (z .args .d) (z .pre .known))
+
+mul-places : tie.Need-mul-places Inv-loop μ-loop Inv-probe μ-probe
+mul-places c = let z = c .before .before .before .before .before .before in omega (arith, c .dict-at .ensures, dict-within (z .args .s) (z .args .d) (z .pre .known))
+
+measure-requires : tie.Need-measure-requires Inv-loop μ-loop Inv-probe μ-probe
+measure-requires c κs = search needs
+
+hash-requires : tie.Need-hash-requires Inv-loop μ-loop Inv-probe μ-probe
+hash-requires c κs = search needs
+
+start-requires : tie.Need-start-requires Inv-loop μ-loop Inv-probe μ-probe
+start-requires c κs = omega arith
+
+probe-holds : tie.Need-probe-holds Inv-loop μ-loop Inv-probe μ-probe
+probe-holds c =
+    let z = c .before .before .before .before .before .before .before .before .before in
+    let a = z .args in
+    let h = fnvOf (keyOf (a .lead .now) (a .mode) (a .tag .now) (a .rest .now)) in
+    let m = 2 * a .s .e in
+    let e : c .start .result ≡ h % m = c .start .ensures ∙ ap (λ (x : ℕ). x % m) (c .before .hash .ensures) in
+    (omega arith, rw e (mod-lt h (omega (arith, z .pre .ranged .e))), place-zero m h ∙ sym e, λ k l. absurd (omega arith))
+
+returns : tie.Need-returns Inv-loop μ-loop Inv-probe μ-probe
+returns c =
+    let z = entered (c .before) in
+    let a = z .args in
+    record {
+      range = tt;
+      right = λ es H.
+          never-full (a .s) (B (a .pages .now)) (W (a .lists .now) (a .s) (a .d)) (Q (a .lists .now) (a .s) (a .d)) es H (z .pre .ranged .e .0) _
+          (λ k l. c .before .probe .inv .3 k (omega arith) .0);
+    }
+
+add-quad-at : tie.Need-add-quad-at Inv-loop μ-loop Inv-probe μ-probe
+add-quad-at c =
+    let z = entered (c .before) in
+    omega (arith, c .before .before .before .before .before .dict-at .ensures, dict-within (z .args .s) (z .args .d) (z .pre .known))
+
+quad-at-requires : tie.Need-quad-at-requires Inv-loop μ-loop Inv-probe μ-probe
+quad-at-requires c κs =
+    let z = entered (c .before) in
+    omega (arith, c .before .before .before .before .before .dict-at .ensures, dict-within (z .args .s) (z .args .d) (z .pre .known), list-bytes (z .args .s), z .pre .lists-fit)
+
+returns-2 : tie.Need-returns-2 Inv-loop μ-loop Inv-probe μ-probe
+returns-2 c =
+    let a = entered (c .before .before .before) .args in
+    let p = c .before .before .before .probe in
+    record {
+      range = omega arith;
+      right = λ es H.
+          missed (a .s) (B (a .pages .now)) (W (a .lists .now) (a .s) (a .d)) (Q (a .lists .now) (a .s) (a .d)) es H _ (p .t) (p .j) (omega arith) (p .inv .2)
+          (sym (quad (c .before)) ∙ c .if2 .taken)
+          (p .inv .3);
+    }
+
+returns-3 : tie.Need-returns-3 Inv-loop μ-loop Inv-probe μ-probe
+returns-3 c =
+    let a = entered (c .before .before .before .before) .args in
+    record {
+      range = tt;
+      right = λ es H.
+          never-past (a .s) (B (a .pages .now)) (W (a .lists .now) (a .s) (a .d)) (Q (a .lists .now) (a .s) (a .d)) es H (c .before .before .before .before .probe .j) (omega arith)
+          (omega (arith, quad (c .before .before), c .if3 .taken));
+    }
+
+sub-entry : tie.Need-sub-entry Inv-loop μ-loop Inv-probe μ-probe
+sub-entry c = omega arith
+
+entry-requires : tie.Need-entry-requires Inv-loop μ-loop Inv-probe μ-probe
+entry-requires c κs = let z = entered (c .before .before .before .before) in (z .pre .ranged, z .pre .lists-fit, z .pre .known, omega arith)
+
+enum-known-at : tie.Need-enum-known-at Inv-loop μ-loop Inv-probe μ-probe
+enum-known-at c = search needs
+
+enum-told : tie.Need-enum-told Inv-loop μ-loop Inv-probe μ-probe
+enum-told c = search needs
+
+returns-4 : tie.Need-returns-4 Inv-loop μ-loop Inv-probe μ-probe
+returns-4 c =
+    let a = entered (c .before .before .before .before .before .before .before) .args in
+    let q = quad (c .before .before .before .before .before) in
+    let w = W (a .lists .now) (a .s) (a .d) in
+    record {
+      range = tt;
+      right = λ es H.
+          let o =
+          never-out (a .s) (B (a .pages .now)) w (Q (a .lists .now) (a .s) (a .d)) es H
+          (c .before .before .before .before .before .before .before .probe .j) (omega arith) (λ z. c .before .before .before .before .if2 .left (q ∙ z)) in
+          never-bad (a .s) _ (o .0) (o .1)
+          (ap (λ (x : ℕ). entryField (a .s) (w (x - 1))) (sym q) ∙ sym (c .before .before .entry .ensures .field) ∙ bad (c .before .before .entry .result) (c .before .match .keys2));
+    }
+
+add-end : tie.Need-add-end Inv-loop μ-loop Inv-probe μ-probe
+add-end c = let z = entered (turn c) in omega (arith, inside c, page-bytes (z .args .s) (z .pre .ranged))
+
+sub-front-is : tie.Need-sub-front-is Inv-loop μ-loop Inv-probe μ-probe
+sub-front-is c = omega arith
+
+part-front-is-start : tie.Need-part-front-is-start Inv-loop μ-loop Inv-probe μ-probe
+part-front-is-start c = let l = ends c in search needs
+
+part-front-is-end : tie.Need-part-front-is-end Inv-loop μ-loop Inv-probe μ-probe
+part-front-is-end c = let l = ends c in search needs
+
+front-is-requires : tie.Need-front-is-requires Inv-loop μ-loop Inv-probe μ-probe
+front-is-requires c κs = c .before .before .before .before .before .before .before .before .before .before .before .before .measure .ensures
+
+loop-holds : tie.Need-loop-holds Inv-loop μ-loop Inv-probe μ-probe
+loop-holds c = (omega arith, λ k l u. absurd (omega arith))
+
+sub-if5 : tie.Need-sub-if5 Inv-loop μ-loop Inv-probe μ-probe
+sub-if5 c = omega (arith, rest-in (c .before .before))
+
+shared-slice-read-if5 : tie.Need-shared-slice-read-if5 Inv-loop μ-loop Inv-probe μ-probe
+shared-slice-read-if5 c = omega (arith, rest-in (c .before .before .before), ends (c .before .before .before .before .before .before))
+
+sub-if5-2 : tie.Need-sub-if5-2 Inv-loop μ-loop Inv-probe μ-probe
+sub-if5-2 c = omega arith
+
+shared-slice-read-if5-2 : tie.Need-shared-slice-read-if5-2 Inv-loop μ-loop Inv-probe μ-probe
+shared-slice-read-if5-2 c = omega arith
+
+sub-left : tie.Need-sub-left Inv-loop μ-loop Inv-probe μ-probe
+sub-left c = omega arith
+
+loop-less : tie.Need-loop-less Inv-loop μ-loop Inv-probe μ-probe
+loop-less c = omega arith
+
+loop-again : tie.Need-loop-again Inv-loop μ-loop Inv-probe μ-probe
+loop-again c = (omega arith, more _ _ _ (omega arith) (c .before .before .before .before .loop .inv .1) (c .if5 .left))
+
+up-requires : tie.Need-up-requires Inv-loop μ-loop Inv-probe μ-probe
+up-requires c κs = omega arith
+
+add-t : tie.Need-add-t Inv-loop μ-loop Inv-probe μ-probe
+add-t c = omega (arith, entered (turn (c .before .before .before .before)) .pre .ranged .e)
+
+probe-less : tie.Need-probe-less Inv-loop μ-loop Inv-probe μ-probe
+probe-less c = omega arith
+
+probe-again : tie.Need-probe-again Inv-loop μ-loop Inv-probe μ-probe
+probe-again c =
+    let k = c .before .before .before .before in
+    let a = entered (turn k) .args in
+    let p = turn k .probe in
+    let q = c .before .before .before .before .before .before .before .before .before .before in
+    let r = c .before .before .front-is .ensures in
+    let key = keyOf (a .lead .now) (a .mode) (a .tag .now) (a .rest .now) in
+    let w = W (a .lists .now) (a .s) (a .d) in
+    let n : Stands (a .s) (B (a .pages .now)) (w (q .quad-at .result - 1)) key → ⊥ =
+    ⊎-elim
+    (λ x. not-byte _ _ _ _ _ _ _ _ refl (field k) (ends k) (sym r ∙ x .0 .taken) (x .1 .left) (omega arith) (omega arith) (x .5 .taken))
+    (λ x. not-front _ _ _ _ _ _ _ _ refl (field k) (ends k) (sym r ∙ x .left))
+    (c .before .if4 .came) in (
+      omega arith,
+      rw (c .up .ensures) (mod-lt (p .j + 1) (omega arith)),
+      place-next (2 * a .s .e) (fnvOf key) (p .t) ∙ rw (p .inv .2) (sym (c .up .ensures)),
+      below-more _ _ (p .inv .3)
+          (passed (a .s) (B (a .pages .now)) w (Q (a .lists .now) (a .s) (a .d)) key (2 * a .s .e) (fnvOf key) (p .t) (p .j) (q .quad-at .result)
+          (p .inv .2) (quad q) (c .before .before .before .before .before .before .before .before .before .if2 .left) n),
+    )
+
+sub-t21 : tie.Need-sub-t21 Inv-loop μ-loop Inv-probe μ-probe
+sub-t21 c = omega arith
+
+returns-5 : tie.Need-returns-5 Inv-loop μ-loop Inv-probe μ-probe
+returns-5 c =
+    let k = c .before .before .before .before .before in
+    let a = entered (turn k) .args in
+    let q = quad (c .before .before .before .before .before .before .before .before .before .before .before) in
+    let key = keyOf (a .lead .now) (a .mode) (a .tag .now) (a .rest .now) in
+    let b = B (a .pages .now) in
+    let w = W (a .lists .now) (a .s) (a .d) in
+    let t : Stands (a .s) b (w (c .before .before .before .before .before .before .before .before .before .before .before .quad-at .result - 1)) key =
+    all-bytes _ _ _ _ _ _ _ _ refl (field k) (ends k) (sym (c .before .before .before .front-is .ensures) ∙ c .before .before .if4 .taken)
+    (λ i z l. c .before .loop .inv .1 i (omega arith) (omega arith)) in
+    record {
+      range = omega arith;
+      right = λ es H.
+          subst (λ (x : ℕ). es (x - 1) ≡ some key) (sym q)
+          (hit (a .s) b w (Q (a .lists .now) (a .s) (a .d)) es H (turn k .probe .j) key (omega arith)
+          (λ z. c .before .before .before .before .before .before .before .before .before .before .if2 .left (q ∙ z))
+          (subst (λ (x : ℕ). Stands (a .s) b (w (x - 1)) key) q t));
+    }
+
+pub bytes-to-id-spec : {M : Type 1} → statement M
+bytes-to-id-spec =
+    tie.close
+    (tie.spec
+    Inv-loop
+    μ-loop
+    Inv-probe
+    μ-probe
+    mul-m
+    dict-at-requires
+    add-places
+    mul-places
+    measure-requires
+    hash-requires
+    start-requires
+    probe-holds
+    returns
+    add-quad-at
+    quad-at-requires
+    returns-2
+    returns-3
+    sub-entry
+    entry-requires
+    enum-known-at
+    enum-told
+    returns-4
+    add-end
+    sub-front-is
+    part-front-is-start
+    part-front-is-end
+    front-is-requires
+    loop-holds
+    sub-if5
+    shared-slice-read-if5
+    sub-if5-2
+    shared-slice-read-if5-2
+    sub-left
+    loop-less
+    loop-again
+    up-requires
+    add-t
+    probe-less
+    probe-again
+    sub-t21
+    returns-5)

@@ -1,0 +1,61 @@
+-- What it is that a dictionary's memory holds entries: facts that a program could check. The words, quads and page bytes are functions of
+-- their index, so that a frame is agreement. Assumes nothing.
+use mathlib.Core.Path.{_≡_}
+use mathlib.Core.Logic.{_≢_}
+use mathlib.Core.Option.{Option, none, some}
+use Prim.Native.Nat.{ℕ, _+_, _-_, _*_, _≤_, _<_}
+use lib.ListN.{length, getD}
+use Rattle.slices.specs.Bytes.{Bytes}
+use Rattle.fnv.specs.Fnv.{fnvOf}
+use Rattle.layout.specs.declared.Sizes.{Sizes}
+use Rattle.layout.specs.Sizes.{pageSize}
+use Rattle.layout.specs.Fields.{pageOf, offsetOf, sizeOf}
+use Rattle.bytes_index.specs.Place.{place}
+use Rattle.bytes_index.specs.Filled.{filled}
+
+-- The bytes of an entry by its number; none where the number is not in use.
+abbrev pub Entries : Type 0
+Entries = ℕ → Option Bytes
+
+abbrev pub used : Option Bytes → ℕ
+used none = 0
+used (some key) = 1
+
+-- Where in the pages an entry word's bytes start.
+abbrev pub addressOf : Sizes → ℕ → ℕ
+addressOf s w = pageOf w * pageSize s + offsetOf w
+
+-- The entry word w stands for the bytes of key, which lie in one page.
+pub record Stands (s : Sizes) (B : ℕ → ℕ) (w : ℕ) (key : Bytes) : Type 0 where
+  pub paged : pageOf w < s .n
+  pub inside : offsetOf w + sizeOf w ≤ pageSize s
+  pub sized : sizeOf w ≡ length key
+  pub bytes : (k : ℕ) → k < length key → B (addressOf s w + k) ≡ getD key k 0
+
+-- The search from h meets entry i: at `step`, and no place before it is empty. Q gives the dictionary's index places.
+pub record Met (Q : ℕ → ℕ) (m h i : ℕ) : Type 0 where
+  pub step : ℕ
+  pub near : step < m
+  pub there : Q (place m h step) ≡ i + 1
+  pub full : (k : ℕ) → k < step → Q (place m h k) ≢ 0
+
+-- The place j is the first empty one from h.
+pub record FreeAt (Q : ℕ → ℕ) (m h j : ℕ) : Type 0 where
+  pub step : ℕ
+  pub near : step < m
+  pub here : place m h step ≡ j
+  pub empty : Q j ≡ 0
+  pub full : (k : ℕ) → k < step → Q (place m h k) ≢ 0
+
+-- The memory holds these entries: B are the pages' bytes, W the entry words, Q the index places, e and 2e of them.
+pub record Holds (s : Sizes) (B W Q : ℕ → ℕ) (es : Entries) : Type 0 where
+  pub entry : (i : ℕ) (key : Bytes) → es i ≡ some key → (i < s .e) × Stands s B (W i) key
+  pub names : (j : ℕ) → j < 2 * s .e → Q j ≢ 0 → (key : Bytes) × (es (Q j - 1) ≡ some key)
+  pub met : (i : ℕ) (key : Bytes) → es i ≡ some key → Met Q (2 * s .e) (fnvOf key) i
+  pub count : filled Q (2 * s .e) ≡ filled (λ i. used (es i)) (s .e)
+  pub apart : (i j : ℕ) (key : Bytes) → es i ≡ some key → es j ≡ some key → i ≡ j
+
+-- No entry is the key, and j is where its search ends.
+pub record Misses (s : Sizes) (Q : ℕ → ℕ) (es : Entries) (key : Bytes) (j : ℕ) : Type 0 where
+  pub absent : (i : ℕ) → es i ≡ some key → ⊥
+  pub free : FreeAt Q (2 * s .e) (fnvOf key) j

@@ -1,0 +1,5 @@
+pub mod Place
+pub mod Filled
+pub mod Entries
+pub mod Field
+pub mod Search

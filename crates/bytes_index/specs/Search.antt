@@ -1,0 +1,53 @@
+-- What a search in a dictionary answers. Assumes nothing.
+use mathlib.Core.Path.{_≡_}
+use mathlib.Core.Bool.{Bool, _&&_}
+use mathlib.Core.List.{_++_}
+use mathlib.Core.Option.{some}
+use Prim.Native.Nat.{ℕ, _+_, _*_, _<_, _≤_}
+use lib.Dec.{eqb}
+use lib.ListN.{length, getD, take}
+use Rattle.slices.specs.Bytes.{Bytes, sameBytes}
+use Rattle.words.specs.Words.{wordAt, quadAt}
+use Rattle.parts.specs.declared.Mode.{Mode}
+use Rattle.parts.specs.Parts.{bytesOf}
+use Rattle.layout.specs.declared.Sizes.{Sizes}
+use Rattle.layout.specs.Sizes.{InRange, dictionaries, pageBytes, listBytes}
+use Rattle.layout.specs.Fields.{entryAt, placeAt}
+use Rattle.bytes_index.specs.Entries.{Entries, Holds, Misses}
+use Rattle.bytes_index.specs.declared.Probe.{Probe}
+use Rattle.bytes_index.specs.declared.Probe.the-variants.{At, Free, Bad}
+
+-- A key is a few parts one after the other, where they lie.
+abbrev pub keyOf : Bytes → Mode → Bytes → Bytes → Bytes
+keyOf lead mode tag rest = lead ++ bytesOf mode tag ++ rest
+
+-- A stored key is this front and n bytes more.
+unfoldable pub frontIs : Bytes → Bytes → ℕ → Bool
+frontIs stored front n = eqb (length stored) (length front + n) && sameBytes front (take (length front) stored)
+
+-- Slices long enough for the sizes, and a dictionary's number.
+pub record Fits (s : Sizes) (pages lists : Bytes) (d : ℕ) : Type 0 where
+  pub ranged : InRange s
+  pub pages-fit : pageBytes s ≤ length pages
+  pub lists-fit : listBytes s ≤ length lists
+  pub known : d < dictionaries
+
+-- Dictionary d of a memory holds these entries.
+abbrev pub Held : Sizes → ℕ → Bytes → Bytes → Entries → Type 0
+Held s d pages lists es = Holds s (λ a. getD pages a 0) (λ i. wordAt lists (entryAt s d i)) (λ j. quadAt lists (placeAt s d j)) es
+
+-- The number of the key's entry; or where its search ended at an empty place; Bad never comes where the dictionary holds.
+abbrev pub Answer : Sizes → ℕ → Bytes → Entries → Bytes → Probe → Type 0
+Answer s d lists es key (At i) = es i ≡ some key
+Answer s d lists es key (Free j) = Misses s (λ k. quadAt lists (placeAt s d k)) es key j
+Answer s d lists es key Bad = ⊥
+
+-- What holds of an answer whatever the memory holds.
+abbrev pub Ranged : Sizes → Probe → Type 0
+Ranged s (At i) = i < s .e
+Ranged s (Free j) = j < 2 * s .e
+Ranged s Bad = Unit {0}
+
+pub record Searched (s : Sizes) (d : ℕ) (pages lists key : Bytes) (r : Probe) : Type 0 where
+  pub range : Ranged s r
+  pub right : (es : Entries) → Held s d pages lists es → Answer s d lists es key r

@@ -1,0 +1,159 @@
+// The searched index of a dictionary's entries (Nemo's bytes_dictionary.rs, whose HashMap it replaces).
+use layout::Sizes;
+use parts::Mode;
+ghost use mathlib.Core.Path.{_≡_};
+ghost use mathlib.Core.List.{_++_};
+ghost use Prim.Native.Nat.{_+_, _*_, _%_, _≤_, _<_};
+ghost use lib.ListN.{length};
+ghost use Rattle.fnv.specs.Fnv.{fnvOf};
+ghost use Rattle.words.specs.Words.{wordAt};
+ghost use Rattle.parts.specs.Parts.{bytesOf};
+ghost use Rattle.layout.specs.Sizes.{InRange, dictionaries, listBytes};
+ghost use Rattle.layout.specs.Fields.{entryAt};
+ghost use Rattle.bytes_index.specs.Field.{Located};
+ghost use Rattle.bytes_index.specs.Search.{keyOf, frontIs, Fits, Searched};
+
+// A search ends at the entry of its key, or at an empty place. Bad: the memory is no dictionary's.
+pub enum Probe {
+    At(usize),
+    Free(usize),
+    Bad,
+}
+
+// Where an entry's bytes lie in the pages. Bad: the memory is no dictionary's.
+pub enum Span {
+    At { at: usize, len: usize },
+    Bad,
+}
+
+fn hash(lead: &[u8], mode: Mode, tag: &[u8], rest: &[u8]) -> u32
+    ensures { λ r. ⌜ r ≡ fnvOf (keyOf (now (lead .entry)) mode (now (tag .entry)) (now (rest .entry))) ⌝ }
+{
+    let h = parts::hash_on(fnv::fnv(lead), mode, tag);
+    fnv::fnv_from(h, rest)
+}
+
+// The place where the search starts.
+fn start(h: u32, m: usize) -> usize
+    requires { ⌜ 0 < m ⌝ }
+    ensures { λ r. ⌜ r ≡ h % m ⌝ }
+{
+    let h = h as usize;
+    h % m
+}
+
+// One place up, wrapping to 0.
+fn up(j: usize, m: usize) -> usize
+    requires { ⌜ j < m ⌝ }
+    ensures { λ r. ⌜ r ≡ (j + 1) % m ⌝ }
+{
+    let k = j + 1;
+    if k == m { 0 } else { k }
+}
+
+// Where the bytes of entry i of dictionary d lie.
+pub fn entry(lists: &[u8], s: Sizes, d: usize, i: usize) -> Span
+    requires { ⌜ InRange s × (listBytes s ≤ length (now lists)) × (d < dictionaries) × (i < s .e) ⌝ }
+    ensures { λ r. ⌜ Located s (wordAt (now (lists .entry)) (entryAt s d i)) r ⌝ }
+{
+    let w = words::word_at(lists, layout::dict_at(s, d) + i);
+    let page = w % 1024;
+    let offset = w / 1024 % 2097152;
+    let len = w / 2147483648;
+    let size = layout::page_size(s);
+    if s.n <= page {
+        return Span::Bad;
+    }
+    if size < offset + len {
+        return Span::Bad;
+    }
+    Span::At {
+        at: page * size + offset,
+        len,
+    }
+}
+
+// Whether a stored key is the lead, the tag, whose stored length is `measured`, and `rest` bytes more.
+fn front_is(
+    stored: &[u8],
+    lead: &[u8],
+    mode: Mode,
+    tag: &[u8],
+    measured: usize,
+    rest: usize,
+) -> bool
+    requires { ⌜ measured ≡ length (bytesOf mode (now tag)) ⌝ }
+    ensures { λ r. ⌜ r ≡ frontIs (now (stored .entry)) (now (lead .entry) ++ bytesOf mode (now (tag .entry))) rest ⌝ }
+{
+    let a = lead.len();
+    if stored.len() < a {
+        return false;
+    }
+    let after = stored.len() - a;
+    if after < measured {
+        return false;
+    }
+    if after - measured != rest {
+        return false;
+    }
+    let b = a + measured;
+    if !parts::same(Mode::Raw, lead, &stored[..a]) {
+        return false;
+    }
+    parts::same(mode, tag, &stored[a..b])
+}
+
+// Searches the index of dictionary d for a key: from its hash up, 2e places at the most, to its entry or the first empty place.
+pub fn bytes_to_id(
+    pages: &[u8],
+    lists: &[u8],
+    s: Sizes,
+    d: usize,
+    lead: &[u8],
+    mode: Mode,
+    tag: &[u8],
+    rest: &[u8],
+) -> Probe
+    requires { ⌜ Fits s (now pages) (now lists) d ⌝ }
+    ensures { λ r. ⌜ Searched s d (now (pages .entry)) (now (lists .entry)) (keyOf (now (lead .entry)) mode (now (tag .entry)) (now (rest .entry))) r ⌝ }
+{
+    let e = s.e;
+    let m = 2 * e;
+    let places = 2 * (layout::dict_at(s, d) + m);
+    let measured = parts::measure(mode, tag);
+    let n = rest.len();
+    let mut j = start(hash(lead, mode, tag, rest), m);
+    let mut t = 0;
+    let mut w = 0;
+    'probe: loop {
+        if t == m {
+            return Probe::Bad;
+        }
+        w = words::quad_at(lists, places + j);
+        if w == 0 {
+            return Probe::Free(j);
+        }
+        if e < w {
+            return Probe::Bad;
+        }
+        let Span::At { at, len } = entry(lists, s, d, w - 1) else {
+            return Probe::Bad;
+        };
+        let end = at + len;
+        if front_is(&pages[at..end], lead, mode, tag, measured, n) {
+            let mut left = n;
+            loop {
+                if left == 0 {
+                    break 'probe;
+                }
+                if pages[end - left] != rest[n - left] {
+                    break;
+                }
+                left -= 1;
+            }
+        }
+        j = up(j, m);
+        t += 1;
+    }
+    Probe::At(w - 1)
+}

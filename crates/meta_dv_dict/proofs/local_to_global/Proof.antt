@@ -1,0 +1,83 @@
+-- Each return by its law. Assumes nothing.
+use Prim.Native.Nat.{_*_, _<_, _≤_}
+use mathlib.Core.Path.{sym, _∙_}
+use native.Mathlib.Nat.{mod-lt}
+use native.Mathlib.Omega.{arith}
+use borrow.Author.Needs.{needs}
+use Rattle.meta_dv_dict.proofs.Answers.{held-below, number-fits, globals-past, globals-bad, globals-there}
+use Rattle.meta_dv_dict.proofs.Tags.{not-in}
+use Rattle.meta_dv_dict.proofs.local_to_global.Statement.{statement}
+use Rattle.meta_dv_dict.proofs.local_to_global.Tie as tie
+
+block-size-requires : tie.Need-block-size-requires
+block-size-requires c κs = search needs
+
+div-l : tie.Need-div-l
+div-l c = search needs
+
+returns : tie.Need-returns
+returns c =
+    let z = c .before .before in
+    let a = z .before .before in
+    globals-past (a .args .s) _ _ _ _ (a .pre .2) (z .block-size .ensures .0) (c .if1 .taken)
+
+held-in-requires : tie.Need-held-in-requires
+held-in-requires c κs = search needs
+
+enum-known-g : tie.Need-enum-known-g
+enum-known-g c = search needs
+
+enum-told : tie.Need-enum-told
+enum-told c = search needs
+
+returns-2 : tie.Need-returns-2
+returns-2 c =
+    let h = c .before .before in
+    let z = h .before .before .before in
+    let a = z .before .before in
+    globals-bad (a .args .s) _ _ _ _ (a .pre .2) (z .block-size .ensures .0)
+    (sym (h .held-in .ensures) ∙ not-in (h .held-in .result) (c .before .match .keys2))
+
+rem-rest : tie.Need-rem-rest
+rem-rest c = search needs
+
+product : (c : tie.After-known-told) → c .before .g .given .0 .0 * c .before .before .before .before .before .before .block-size .result ≤ 68702699520
+product c =
+    let h = c .before .before .before in
+    let z = h .before .before .before in
+    let a = z .before .before .args in
+    let g = c .before .g .given .0 .0 in
+    let l : g < a .s .b = held-below _ _ g (sym (h .held-in .ensures) ∙ c .before .g .given .1) in
+    number-fits g (z .block-size .result) (omega arith) (omega arith)
+
+mul-t12 : tie.Need-mul-t12
+mul-t12 c = omega (arith, product c)
+
+add-t13 : tie.Need-add-t13
+add-t13 c =
+    let z = c .before .before .before .before .before .before in
+    let p : 0 < z .block-size .result = omega arith in
+    omega (arith, product c, mod-lt (z .before .before .args .local .0) p)
+
+returns-3 : tie.Need-returns-3
+returns-3 c =
+    let h = c .before .before .before in
+    let z = h .before .before .before in
+    let a = z .before .before in
+    globals-there (a .args .s) _ _ _ _ (a .pre .2) (z .block-size .ensures .0) _ (sym (h .held-in .ensures) ∙ c .before .g .given .1)
+
+pub local-to-global-spec : {M : Type 1} → statement M
+local-to-global-spec =
+    tie.close
+    (tie.spec
+    block-size-requires
+    div-l
+    returns
+    held-in-requires
+    enum-known-g
+    enum-told
+    returns-2
+    rem-rest
+    mul-t12
+    add-t13
+    returns-3)

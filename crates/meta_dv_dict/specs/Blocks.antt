@@ -1,0 +1,73 @@
+-- The block rule of document 01, section Blocks, as a state with one step. Assumes nothing.
+use Prim.Native.Nat.{ℕ, zero, suc, _+_, _-_, _*_, _/_, _%_, _^_}
+use mathlib.Core.Bool.{cond}
+use mathlib.Core.List.{List, [], _∷_}
+use mathlib.Core.Option.{Option, none, some}
+use lib.Dec.{eqb}
+pub use Rattle.slices.specs.Updates.{upd}
+use Rattle.layout.specs.declared.Sizes.{Sizes}
+
+-- A global block is free, or held by a kind's local block.
+pub data Block : Type 0 where
+  free : Block
+  held : ℕ → ℕ → Block
+
+-- The owner of a global block; the global block of a kind's local block; a kind's next local number.
+pub record Blocks : Type 0 where
+  pub owner : ℕ → Block
+  pub place : ℕ → ℕ → ℕ
+  pub next : ℕ → ℕ
+
+abbrev pub noBlocks : Blocks
+noBlocks = record { owner = λ g. free; place = λ k l. zero; next = λ k. zero }
+
+abbrev pub ifFree : Block → ℕ → Option ℕ → Option ℕ
+ifFree free g o = some g
+ifFree (held k l) g o = o
+
+-- The first free block of the n from g up.
+abbrev pub search : (ℕ → Block) → ℕ → ℕ → Option ℕ
+search t g zero = none
+search t g (suc n) = ifFree (t g) g (search t (suc g) n)
+
+-- Where the search for the kind k's local block l starts: block 0 for the first; g + l for the next after local block l, held in g.
+abbrev pub start : Blocks → ℕ → ℕ → ℕ
+start b k zero = zero
+start b k (suc l) = b .place k l + l
+
+-- The block of the kind k's next number: where a local block begins, the first free one below B; else the one that it is in.
+unfoldable pub pick : Sizes → Blocks → ℕ → Option ℕ
+pick s b k =
+    cond (eqb (b .next k % 2 ^ s .w) zero)
+    (search (b .owner) (start b k (b .next k / 2 ^ s .w)) (s .b - start b k (b .next k / 2 ^ s .w)))
+    (some (b .place k (b .next k / 2 ^ s .w)))
+
+-- The kind k's next number is given, in the block g. Where the local block goes on, this writes what is there.
+abbrev pub took : ℕ → Blocks → ℕ → ℕ → Blocks
+took w b k g = record {
+  owner = upd (b .owner) g (held k (b .next k / 2 ^ w));
+  place = upd (b .place) k (upd (b .place k) (b .next k / 2 ^ w) g);
+  next = upd (b .next) k (suc (b .next k));
+}
+
+-- The global number of the kind k's local number n.
+abbrev pub global : ℕ → Blocks → ℕ → ℕ → ℕ
+global w b k n = b .place k (n / 2 ^ w) * 2 ^ w + n % 2 ^ w
+
+-- The number that a fresh name of the kind k gets, if its block is g.
+abbrev pub newest : ℕ → Blocks → ℕ → ℕ → ℕ
+newest w b k g = g * 2 ^ w + b .next k % 2 ^ w
+
+-- ---- steps for kinds in order, newest first
+
+abbrev pub tookPicked : ℕ → Blocks → ℕ → Option ℕ → Blocks
+tookPicked w b k none = b
+tookPicked w b k (some g) = took w b k g
+
+abbrev pub blocksAfter : Sizes → Blocks → List ℕ → Blocks
+blocksAfter s b [] = b
+blocksAfter s b (k ∷ ks) = tookPicked (s .w) (blocksAfter s b ks) k (pick s (blocksAfter s b ks) k)
+
+abbrev pub numberPicked : ℕ → Blocks → ℕ → Option ℕ → Option ℕ
+numberPicked w b k none = none
+numberPicked w b k (some g) = some (newest w b k g)
