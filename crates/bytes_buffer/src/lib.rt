@@ -1,4 +1,4 @@
-// Pages: who owns one, how far it is used, and where the next entry goes. The pages' own bytes are written elsewhere.
+// Pages (Nemo's bytes_buffer.rs): who owns one, how far it is used, and where the next entry goes. The pages' own bytes are written elsewhere.
 ghost use mathlib.Core.Path.{_≡_};
 ghost use Prim.Native.Nat.{_+_, _*_, _≤_, _<_};
 ghost use lib.ListN.{length};
@@ -6,25 +6,15 @@ ghost use Rattle.words.specs.Words.{wordAt};
 ghost use Rattle.layout.specs.Sizes.{InRange, dictionaries, pageSize, listBytes};
 ghost use Rattle.layout.specs.Fields.{untakenAt, pageAt};
 ghost use Rattle.bytes_buffer.specs.Spots.{lowestOf, nextOf, spotIn, InPages, extended, tookPage};
+use layout::CURRENT;
+use layout::OFFSETS;
+use layout::OWNERS;
+use layout::PAGE_NUMBERS;
+use layout::PAGES;
+use layout::POSITION;
 use layout::Sizes;
-
-// Where the words of `lists` lie: the lowest untaken page.
-const UNTAKEN: usize = 6;
-
-// Dictionary 0's current page + 1. Each further dictionary's stands 4 words on.
-const CURRENT: usize = 17;
-
-// How many pages dictionary 0 has, and so on.
-const TAKEN: usize = 18;
-
-// Page 0: its owner + 16 × its used bytes + 2^25 × its position among its dictionary's pages.
-const PAGES: usize = 64;
-
-const OWNERS: usize = 16;
-
-const USED: usize = 2097152;
-
-const POSITION: usize = 33554432;
+use layout::TAKEN;
+use layout::UNTAKEN;
 
 // Where an entry goes: behind what the current page has, or to the front of the lowest untaken page.
 pub enum Spot {
@@ -79,7 +69,7 @@ pub fn plan(lists: &[u8], s: Sizes, d: usize, untaken: usize, len: usize) -> Spo
         return Spot::Bad;
     }
     let page = current - 1;
-    let used = words::word_at(lists, PAGES + page) / OWNERS % USED;
+    let used = words::word_at(lists, PAGES + page) / OWNERS % OFFSETS;
     let size = layout::page_size(s);
     if size < used {
         return Spot::Bad;
@@ -109,7 +99,7 @@ pub fn take_page(lists: &mut [u8], d: usize, page: usize, used: usize)
     ensures { λ _. ⌜ now (lists .exit) ≡ tookPage (now (lists .entry)) d page used ⌝ }
 {
     // A dictionary has fewer than 1,024 pages where one is left, so the remainder is the number itself.
-    let taken = words::word_at(lists, TAKEN + 4 * d) % 1024;
+    let taken = words::word_at(lists, TAKEN + 4 * d) % PAGE_NUMBERS;
     words::put_word(
         lists,
         PAGES + page,

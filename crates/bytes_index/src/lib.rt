@@ -1,4 +1,7 @@
 // The searched index of a dictionary's entries (Nemo's bytes_dictionary.rs, whose HashMap it replaces).
+use layout::LENGTH;
+use layout::OFFSETS;
+use layout::PAGE_NUMBERS;
 use layout::Sizes;
 use parts::Mode;
 ghost use mathlib.Core.Path.{_≡_};
@@ -57,9 +60,9 @@ pub fn entry(lists: &[u8], s: Sizes, d: usize, i: usize) -> Span
     ensures { λ r. ⌜ Located s (wordAt (now (lists .entry)) (entryAt s d i)) r ⌝ }
 {
     let w = words::word_at(lists, layout::dict_at(s, d) + i);
-    let page = w % 1024;
-    let offset = w / 1024 % 2097152;
-    let len = w / 2147483648;
+    let page = w % PAGE_NUMBERS;
+    let offset = w / PAGE_NUMBERS % OFFSETS;
+    let len = w / LENGTH;
     let size = layout::page_size(s);
     if s.n <= page {
         return Span::Bad;

@@ -1,7 +1,7 @@
 // FNV-1a of 32 bits: where the search for a stored byte string starts.
 ghost use mathlib.Core.Path.{_≡_};
 ghost use Prim.Native.Nat.{_*_, _%_, _^_, _<_};
-ghost use Rattle.fnv.specs.Fnv.{fnvFrom, fnvOf};
+ghost use Rattle.fnv.specs.Fnv.{fnvStep, fnvFrom, fnvOf};
 
 fn wide(x: u8) -> u32
     ensures { λ r. ⌜ (r ≡ x) × (r < 256) ⌝ }
@@ -18,14 +18,21 @@ pub fn wrapping_mul(a: u32, b: u32) -> u32
     (x * y % 0x1_0000_0000) as u32
 }
 
-// The hash h taken on over the bytes of s.
+// The hash h taken on over one byte.
+pub fn fnv_step(h: u32, b: u8) -> u32
+    ensures { λ r. ⌜ r ≡ fnvStep h b ⌝ }
+{
+    wrapping_mul(h ^ wide(b), 16777619)
+}
+
+// The hash `start` taken on over the bytes of s.
 pub fn fnv_from(start: u32, s: &[u8]) -> u32
     ensures { λ r. ⌜ r ≡ fnvFrom start (now (s .entry)) ⌝ }
 {
     let mut h = start;
     let mut i = 0;
     while i < s.len() {
-        h = wrapping_mul(h ^ wide(s[i]), 16777619);
+        h = fnv_step(h, s[i]);
         i += 1;
     }
     h

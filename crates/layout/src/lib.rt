@@ -11,6 +11,35 @@ ghost use Rattle.layout.specs.Opened.{openedLists};
 // "namedic1", low byte first: the first word of every dictionary's `lists`.
 const FORMAT: usize = 0x31636964656D616E;
 
+// How many kinds of names and how many dictionaries there are.
+pub const KINDS: usize = 4;
+
+pub const DICTIONARIES: usize = 6;
+
+// Words of `lists`; specs/Fields.antt has the whole table. The lowest untaken page; of dictionary 0 its count of entries, its current page + 1
+// and its count of pages (each dictionary has four words); page 0.
+pub const UNTAKEN: usize = 6;
+
+pub const COUNT: usize = 16;
+
+pub const CURRENT: usize = 17;
+
+pub const TAKEN: usize = 18;
+
+pub const PAGES: usize = 64;
+
+// Several numbers in one word. A page: its owner below OWNERS, then its used bytes below OFFSETS, then its position from POSITION up.
+// An entry: its page below PAGE_NUMBERS, then its offset below OFFSETS, then its length from LENGTH up. A block: its kind below OWNERS.
+pub const OWNERS: usize = 16;
+
+pub const OFFSETS: usize = 2097152;
+
+pub const POSITION: usize = 33554432;
+
+pub const PAGE_NUMBERS: usize = 1024;
+
+pub const LENGTH: usize = 2147483648;
+
 // Document 01's letters: page width p, pages N, list length E, block width w, blocks B.
 pub struct Sizes {
     pub p: usize,

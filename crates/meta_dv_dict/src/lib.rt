@@ -1,4 +1,4 @@
-// The block rules: which global block a kind's next local number is in, and the ways between local and global numbers.
+// The block rules (Nemo's meta_dv_dict.rs): which global block a kind's next local number is in, and the ways between local and global numbers.
 // Only this file converts one into the other. The memory may be anybody's: every number read from it is tested.
 ghost use mathlib.Core.Path.{_≡_};
 ghost use Prim.Native.Nat.{_+_, _-_, _*_, _/_, _^_, _≤_, _<_};
@@ -9,9 +9,9 @@ ghost use Rattle.layout.specs.Fields.{blocksAt, localAt};
 ghost use Rattle.meta_dv_dict.specs.Blocks.{search};
 ghost use Rattle.meta_dv_dict.specs.Tables.{ownerIn};
 ghost use Rattle.meta_dv_dict.specs.Answers.{allocated, Allocates, heldBy, written, Globals, Locals};
+use layout::KINDS;
+use layout::OWNERS;
 use layout::Sizes;
-
-const KINDS: usize = 4;
 
 // A number within its kind.
 pub struct LocalId(pub usize);
@@ -109,7 +109,7 @@ pub fn take_block(lists: &mut [u8], s: Sizes, k: usize, local: LocalId, g: usize
     let n = local.0;
     let l = n / block_size(s);
     words::put_word(lists, layout::blocks_at(s, k) + l, g + 1);
-    words::put_word(lists, layout::blocks_at(s, KINDS) + g, 1 + k + 16 * l);
+    words::put_word(lists, layout::blocks_at(s, KINDS) + g, 1 + k + OWNERS * l);
 }
 
 // A global number, or the memory is no dictionary's.
@@ -159,8 +159,8 @@ pub fn global_to_local(lists: &[u8], s: Sizes, number: GlobalId) -> Owner
     if x == 0 {
         return Owner::Free;
     }
-    let k = (x - 1) % 16;
-    let l = (x - 1) / 16;
+    let k = (x - 1) % OWNERS;
+    let l = (x - 1) / OWNERS;
     if KINDS <= k {
         return Owner::Bad;
     }

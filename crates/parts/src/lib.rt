@@ -4,7 +4,7 @@ ghost use mathlib.Core.List.{[], _∷_, _++_};
 ghost use Prim.Native.Nat.{_+_, _≤_};
 ghost use lib.ListN.{length, take, drop};
 ghost use lib.Seq.{sets};
-ghost use Rattle.fnv.specs.Fnv.{fnvFrom, fnvStep};
+ghost use Rattle.fnv.specs.Fnv.{fnvFrom};
 ghost use Rattle.slices.specs.Bytes.{sameBytes};
 ghost use Rattle.parts.specs.Parts.{escape, escaped, bytesOf, storedBytes};
 
@@ -114,19 +114,12 @@ pub fn write(mode: Mode, s: &[u8], dst: &mut [u8])
     }
 }
 
-// One byte more of the hash.
-fn step(h: u32, b: u8) -> u32
-    ensures { λ r. ⌜ r ≡ fnvStep h b ⌝ }
-{
-    fnv::wrapping_mul(h ^ (b as u32), 16777619)
-}
-
 fn hash_stored(h: u32, u: Stored) -> u32
     ensures { λ r. ⌜ r ≡ fnvFrom h (storedBytes u) ⌝ }
 {
     match u {
-        Stored::One(a) => step(h, a),
-        Stored::Two(a, b) => step(step(h, a), b),
+        Stored::One(a) => fnv::fnv_step(h, a),
+        Stored::Two(a, b) => fnv::fnv_step(fnv::fnv_step(h, a), b),
     }
 }
 

@@ -1,11 +1,10 @@
 -- The loop's invariant: the hash so far, taken on over the bytes that are left, is that of all. Assumes nothing.
-use mathlib.Core.Path.{_≡_, refl, sym, _∙_, ap}
-use Prim.Native.Nat.{ℕ, _≤_, _-_, _*_, _%_, _^_}
+use mathlib.Core.Path.{_≡_, refl, sym, _∙_}
+use Prim.Native.Nat.{_≤_, _-_}
 use borrow.Author.Needs.{needs}
 use native.Mathlib.Omega.{arith}
-use lib.ListN.{length, drop, getD}
-use lib.Bits.{bitXor}
-use Rattle.fnv.specs.Fnv.{fnvFrom, fnvStep}
+use lib.ListN.{length, drop}
+use Rattle.fnv.specs.Fnv.{fnvFrom}
 use Rattle.fnv.proofs.Laws.{fnv-more, fnv-end}
 use Rattle.fnv.proofs.fnv_from.Statement.{statement}
 use Rattle.fnv.proofs.fnv_from.Tie as tie
@@ -20,14 +19,11 @@ loop-holds : tie.Need-loop-holds Inv-loop μ-loop
 unfolding fnvFrom
 loop-holds c = (omega arith, refl)
 
-shared-slice-read-wide : tie.Need-shared-slice-read-wide Inv-loop μ-loop
-shared-slice-read-wide c = omega arith
+shared-slice-read-fnv-step : tie.Need-shared-slice-read-fnv-step Inv-loop μ-loop
+shared-slice-read-fnv-step c = omega arith
 
-wide-requires : tie.Need-wide-requires Inv-loop μ-loop
-wide-requires c κs = search needs
-
-wrapping-mul-requires : tie.Need-wrapping-mul-requires Inv-loop μ-loop
-wrapping-mul-requires c κs = search needs
+fnv-step-requires : tie.Need-fnv-step-requires Inv-loop μ-loop
+fnv-step-requires c κs = search needs
 
 add-i : tie.Need-add-i Inv-loop μ-loop
 add-i c = omega arith
@@ -36,14 +32,9 @@ loop-less : tie.Need-loop-less Inv-loop μ-loop
 loop-less c = omega arith
 
 loop-again : tie.Need-loop-again Inv-loop μ-loop
-unfolding fnvStep
 loop-again c =
-    let a = c .before .before .before .before in
-    let s = a .before .before .args .s .now in
-    let h = a .loop .h in
-    let e : c .wrapping-mul .result ≡ fnvStep h (getD s (a .loop .i) 0) =
-    c .wrapping-mul .ensures ∙ ap (λ (b : ℕ). bitXor h b * 16777619 % 2 ^ 32) (c .before .wide .ensures .0) in
-    (omega arith, rw e (sym (fnv-more h (a .loop .i) s (omega arith)) ∙ a .loop .inv .1))
+    let a = c .before .before .before in
+    (omega arith, rw (c .fnv-step .ensures) (sym (fnv-more (a .loop .h) (a .loop .i) (a .before .before .args .s .now) (omega arith)) ∙ a .loop .inv .1))
 
 returns : tie.Need-returns Inv-loop μ-loop
 returns c =
@@ -57,9 +48,8 @@ fnv-from-spec =
     Inv-loop
     μ-loop
     loop-holds
-    shared-slice-read-wide
-    wide-requires
-    wrapping-mul-requires
+    shared-slice-read-fnv-step
+    fnv-step-requires
     add-i
     loop-less
     loop-again

@@ -9,36 +9,36 @@ use Rattle.parts.proofs.hash_stored.Tie as tie
 enum-known-u : tie.Need-enum-known-u
 enum-known-u c = search needs
 
-step-requires : tie.Need-step-requires
-step-requires c κs = search needs
+fnv-step-requires : tie.Need-fnv-step-requires
+fnv-step-requires c κs = search needs
 
 enum-known-u-2 : tie.Need-enum-known-u-2
 enum-known-u-2 c = search needs
 
-step-requires-2 : tie.Need-step-requires-2
-step-requires-2 c κs = search needs
+fnv-step-requires-2 : tie.Need-fnv-step-requires-2
+fnv-step-requires-2 c κs = search needs
 
-step-requires-3 : tie.Need-step-requires-3
-step-requires-3 c κs = search needs
+fnv-step-requires-3 : tie.Need-fnv-step-requires-3
+fnv-step-requires-3 c κs = search needs
 
 returns : tie.Need-returns
 unfolding fnvFrom
-returns c = rw (c .before .before .u .given .1) (c .step .ensures)
+returns c = rw (c .before .before .u .given .1) (c .fnv-step .ensures)
 
 returns-2 : tie.Need-returns-2
 unfolding fnvFrom
 returns-2 c =
     let u = c .before .before .before .u2 .given in
-    rw (u .1) (c .step3 .ensures ∙ ap (λ (h : ℕ). fnvStep h (u .0 .1 .0)) (c .before .step2 .ensures))
+    rw (u .1) (c .fnv-step3 .ensures ∙ ap (λ (h : ℕ). fnvStep h (u .0 .1 .0)) (c .before .fnv-step2 .ensures))
 
 pub hash-stored-spec : {M : Type 1} → statement M
 hash-stored-spec =
     tie.close
     (tie.spec
     enum-known-u
-    step-requires
+    fnv-step-requires
     enum-known-u-2
-    step-requires-2
-    step-requires-3
+    fnv-step-requires-2
+    fnv-step-requires-3
     returns
     returns-2)
