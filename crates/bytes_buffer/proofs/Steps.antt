@@ -128,9 +128,9 @@ module _ (s : Sizes) (sp : ℕ → Space) (W W′ : ℕ → ℕ) (d n : ℕ) (r 
               (other (currentAt k) (omega arith) ∙ w .0, q .1 ∙ w .1);
           current = λ k h z. extend-current k h (omega (arith, taken-kept k));
           order = λ k i h m o. omega (arith, taken-kept k, extend-kept i .position, H .order k i h (omega arith) (sym (extend-kept i .owner) ∙ o));
-          last = λ k i h m o q.
-              other (currentAt k) (omega arith)
-              ∙ H .last k i h (omega arith) (sym (extend-kept i .owner) ∙ o) (omega (arith, taken-kept k, extend-kept i .position));
+          distinct = λ k i j h m v o q p.
+              H .distinct k i j h (omega arith) (omega arith) (sym (extend-kept i .owner) ∙ o) (sym (extend-kept j .owner) ∙ q)
+              (sym (extend-kept i .position) ∙ p ∙ extend-kept j .position);
         }
 
   -- ---- it does not: the lowest untaken page becomes the current one
@@ -194,30 +194,51 @@ module _ (s : Sizes) (sp : ℕ → Space) (W W′ : ℕ → ℕ) (d n : ℕ) (r 
             stays sp (grownAt s sp d n) W W′ k (H .current k h v) (omega (arith, pages-unfit s sp d n l e)) (o .0) (o .1) (current-stays k h q)
             (page-stays (currentOf W k) (omega (arith, current-below s sp W k H h v)))
 
-    -- A page of dictionary k has a position below its number of pages, and is the current one if that is the last.
-    take-place : (k i : ℕ) → k < dictionaries → i < suc (allPages sp) → ownerOf (W′ (pageAt i)) ≡ suc k
-        → (positionOf (W′ (pageAt i)) < grownAt s sp d n k .taken) × (suc (positionOf (W′ (pageAt i))) ≡ grownAt s sp d n k .taken → W′ (currentAt k) ≡ suc i)
-    take-place k i h m o = go (ℕ-discrete i (allPages sp)) (ℕ-discrete k d)
+    -- A page that d had stands before the new one.
+    before : (i : ℕ) → i < allPages sp → ownerOf (W′ (pageAt i)) ≡ suc d → positionOf (W′ (pageAt i)) < sp d .taken
+    before i h o = omega (arith, take-kept i h .position, H .order d i l h (sym (take-kept i h .owner) ∙ o))
+
+    -- A page of dictionary k has a position below its number of pages.
+    take-order : (k i : ℕ) → k < dictionaries → i < suc (allPages sp) → ownerOf (W′ (pageAt i)) ≡ suc k → positionOf (W′ (pageAt i)) < grownAt s sp d n k .taken
+    take-order k i h m o = go (ℕ-discrete i (allPages sp)) (ℕ-discrete k d)
       where
-        go : Dec (i ≡ allPages sp) → Dec (k ≡ d)
-            → (positionOf (W′ (pageAt i)) < grownAt s sp d n k .taken) × (suc (positionOf (W′ (pageAt i))) ≡ grownAt s sp d n k .taken → W′ (currentAt k) ≡ suc i)
+        go : Dec (i ≡ allPages sp) → Dec (k ≡ d) → positionOf (W′ (pageAt i)) < grownAt s sp d n k .taken
         go (yes p) (yes q) =
             let a : positionOf (W′ (pageAt i)) ≡ sp d .taken = ap (λ (x : ℕ). positionOf (W′ (pageAt x))) p ∙ new-parts .2 in
             let g : grownAt s sp d n k .taken ≡ suc (sp d .taken) = ap (λ (x : ℕ). grownAt s sp d n x .taken) q ∙ one-more in
-            (omega arith, λ z. ap (λ (x : ℕ). W′ (currentAt x)) q ∙ cur ∙ ap suc (sym p))
+            omega arith
         go (yes p) (no q) =
             let a : ownerOf (W′ (pageAt i)) ≡ suc d = ap (λ (x : ℕ). ownerOf (W′ (pageAt x))) p ∙ new-parts .0 in
             absurd (q (omega arith))
         go (no p) (yes q) =
-            let a : W′ (pageAt i) ≡ W (pageAt i) = page-stays i p in
-            let f : positionOf (W (pageAt i)) < sp d .taken = H .order d i l (omega arith) (sym (ap ownerOf a) ∙ o ∙ ap suc q) in
             let g : grownAt s sp d n k .taken ≡ suc (sp d .taken) = ap (λ (x : ℕ). grownAt s sp d n x .taken) q ∙ one-more in
-            (omega arith, λ z. absurd (omega arith))
+            omega (arith, before i (omega arith) (o ∙ ap suc q))
         go (no p) (no q) =
-            let a : W′ (pageAt i) ≡ W (pageAt i) = page-stays i p in
-            let t = space-other s sp d n k q .0 in
-            let v : ownerOf (W (pageAt i)) ≡ suc k = sym (ap ownerOf a) ∙ o in
-            (omega (arith, H .order k i h (omega arith) v), λ z. current-stays k h q ∙ H .last k i h (omega arith) v (omega arith))
+            let K = take-kept i (omega arith) in
+            omega (arith, space-other s sp d n k q .0, K .position, H .order k i h (omega arith) (sym (K .owner) ∙ o))
+
+    -- No page that was taken has the new one's owner and position.
+    new-alone : (k i j : ℕ) → i ≡ allPages sp → j < allPages sp → ownerOf (W′ (pageAt i)) ≡ suc k → ownerOf (W′ (pageAt j)) ≡ suc k
+        → positionOf (W′ (pageAt i)) ≢ positionOf (W′ (pageAt j))
+    new-alone k i j p h o q e =
+        let a : ownerOf (W′ (pageAt i)) ≡ suc d = ap (λ (x : ℕ). ownerOf (W′ (pageAt x))) p ∙ new-parts .0 in
+        let b : positionOf (W′ (pageAt i)) ≡ sp d .taken = ap (λ (x : ℕ). positionOf (W′ (pageAt x))) p ∙ new-parts .2 in
+        omega (arith, before j h (q ∙ sym o ∙ a))
+
+    -- Two pages of dictionary k with the same position are one.
+    take-distinct : (k i j : ℕ) → k < dictionaries → i < suc (allPages sp) → j < suc (allPages sp) → ownerOf (W′ (pageAt i)) ≡ suc k → ownerOf (W′ (pageAt j)) ≡ suc k
+        → positionOf (W′ (pageAt i)) ≡ positionOf (W′ (pageAt j))
+        → i ≡ j
+    take-distinct k i j h m v o q e = go (ℕ-discrete i (allPages sp)) (ℕ-discrete j (allPages sp))
+      where
+        go : Dec (i ≡ allPages sp) → Dec (j ≡ allPages sp) → i ≡ j
+        go (yes a) (yes b) = a ∙ sym b
+        go (yes a) (no b) = absurd (new-alone k i j a (omega arith) o q e)
+        go (no a) (yes b) = absurd (new-alone k j i b (omega arith) q o (sym e))
+        go (no a) (no b) =
+            let I = take-kept i (omega arith) in
+            let J = take-kept j (omega arith) in
+            H .distinct k i j h (omega arith) (omega arith) (sym (I .owner) ∙ o) (sym (J .owner) ∙ q) (sym (I .position) ∙ e ∙ J .position)
 
     pub take-keeps : PagesAt s (grownAt s sp d n) W′
     take-keeps =
@@ -234,6 +255,6 @@ module _ (s : Sizes) (sp : ℕ → Space) (W W′ : ℕ → ℕ) (d n : ℕ) (r 
               let w = H .without k h (sym (o .0) ∙ z) in
               (current-stays k h q ∙ w .0, o .1 ∙ w .1);
           current = take-current;
-          order = λ k i h m o. take-place k i h (omega arith) o .0;
-          last = λ k i h m o. take-place k i h (omega arith) o .1;
+          order = λ k i h m o. take-order k i h (omega arith) o;
+          distinct = λ k i j h m v. take-distinct k i j h (omega arith) (omega arith);
         }

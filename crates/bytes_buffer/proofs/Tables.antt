@@ -23,7 +23,7 @@ opened s W z = record {
   without = λ d l e. (z (currentAt d) (omega arith) (omega arith), refl);
   current = λ d l t. absurd (omega arith);
   order = λ d i l k. absurd (omega (arith, none-taken));
-  last = λ d i l k. absurd (omega (arith, none-taken));
+  distinct = λ d i j l k. absurd (omega (arith, none-taken));
 }
 
 -- ---- the frame
@@ -62,9 +62,10 @@ module _ (s : Sizes) (sp : ℕ → Space) (W W′ : ℕ → ℕ) (H : PagesAt s 
     order = λ d i l k o.
         let e : W′ (pageAt i) ≡ W (pageAt i) = A .pages i (omega (arith, H .room)) in
         omega (arith, H .order d i l k (ap ownerOf (sym e) ∙ o));
-    last = λ d i l k o q.
+    distinct = λ d i j l k m o q p.
         let e : W′ (pageAt i) ≡ W (pageAt i) = A .pages i (omega (arith, H .room)) in
-        A .current d l ∙ H .last d i l k (ap ownerOf (sym e) ∙ o) (ap (λ (x : ℕ). suc (positionOf x)) (sym e) ∙ q);
+        let f : W′ (pageAt j) ≡ W (pageAt j) = A .pages j (omega (arith, H .room)) in
+        H .distinct d i j l k m (ap ownerOf (sym e) ∙ o) (ap ownerOf (sym f) ∙ q) (ap positionOf (sym e) ∙ p ∙ ap positionOf f);
   }
 
 -- ---- whose a page is
@@ -79,6 +80,16 @@ apart s sp W d e i H l t o q p =
     let a : ownerOf (W (pageAt (currentOf W d))) ≡ suc d = H .current d l t .owner in
     let b : ownerOf (W (pageAt i)) ≡ ownerOf (W (pageAt (currentOf W d))) = ap (λ (x : ℕ). ownerOf (W (pageAt x))) p in
     q (omega arith)
+
+-- Of a dictionary's pages only the current one has the last position.
+pub last : (s : Sizes) (sp : ℕ → Space) (W : ℕ → ℕ) → PagesAt s sp W → (d i : ℕ) → d < dictionaries → i < allPages sp → ownerOf (W (pageAt i)) ≡ suc d
+    → suc (positionOf (W (pageAt i))) ≡ sp d .taken
+    → W (currentAt d) ≡ suc i
+last s sp W H d i l k o q =
+    let t : 0 < sp d .taken = omega arith in
+    let P = H .current d l t in
+    let e : i ≡ currentOf W d = H .distinct d i (currentOf W d) l k (current-below s sp W d H l t) o (P .owner) (omega (arith, P .place)) in
+    omega (arith, P .some)
 
 -- A page that is still to be taken is nobody's.
 pub fresh : (s : Sizes) (sp : ℕ → Space) (W : ℕ → ℕ) → PagesAt s sp W → allPages sp < s .n → (W (pageAt (allPages sp)) ≡ zero) × (ownerOf (W (pageAt (allPages sp))) ≡ zero)

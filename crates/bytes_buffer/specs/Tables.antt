@@ -31,7 +31,8 @@ pub record PagesAt (s : Sizes) (sp : ℕ → Space) (W : ℕ → ℕ) : Type 0 w
   pub count : (d : ℕ) → d < dictionaries → W (takenAt d) ≡ sp d .taken
   pub without : (d : ℕ) → d < dictionaries → sp d .taken ≡ zero → (W (currentAt d) ≡ zero) × (sp d .used ≡ zero)
   pub current : (d : ℕ) → d < dictionaries → 0 < sp d .taken → CurrentPage sp W d
-  -- its pages have positions below their number, and only the current one has the last
+  -- its pages have positions below their number, and no two have the same one
   pub order : (d i : ℕ) → d < dictionaries → i < allPages sp → ownerOf (W (pageAt i)) ≡ suc d → positionOf (W (pageAt i)) < sp d .taken
-  pub last : (d i : ℕ) → d < dictionaries → i < allPages sp → ownerOf (W (pageAt i)) ≡ suc d → suc (positionOf (W (pageAt i))) ≡ sp d .taken
-      → W (currentAt d) ≡ suc i
+  pub distinct : (d i j : ℕ) → d < dictionaries → i < allPages sp → j < allPages sp → ownerOf (W (pageAt i)) ≡ suc d → ownerOf (W (pageAt j)) ≡ suc d
+      → positionOf (W (pageAt i)) ≡ positionOf (W (pageAt j))
+      → i ≡ j

@@ -19,7 +19,7 @@ use Rattle.bytes_index.specs.declared.Probe.the-variants.{At, Free, Bad}
 
 -- A key is a few parts one after the other, where they lie.
 abbrev pub keyOf : Bytes → Mode → Bytes → Bytes → Bytes
-keyOf lead mode tag rest = lead ++ bytesOf mode tag ++ rest
+keyOf prefix mode tag rest = prefix ++ bytesOf mode tag ++ rest
 
 -- A stored key is this front and n bytes more.
 unfoldable pub frontIs : Bytes → Bytes → ℕ → Bool

@@ -29,10 +29,10 @@ pub enum Span {
     Bad,
 }
 
-fn hash(lead: &[u8], mode: Mode, tag: &[u8], rest: &[u8]) -> u32
-    ensures { λ r. ⌜ r ≡ fnvOf (keyOf (now (lead .entry)) mode (now (tag .entry)) (now (rest .entry))) ⌝ }
+fn hash(prefix: &[u8], mode: Mode, tag: &[u8], rest: &[u8]) -> u32
+    ensures { λ r. ⌜ r ≡ fnvOf (keyOf (now (prefix .entry)) mode (now (tag .entry)) (now (rest .entry))) ⌝ }
 {
-    let h = parts::hash_on(fnv::fnv(lead), mode, tag);
+    let h = parts::hash_on(fnv::fnv(prefix), mode, tag);
     fnv::fnv_from(h, rest)
 }
 
@@ -76,19 +76,19 @@ pub fn entry(lists: &[u8], s: Sizes, d: usize, i: usize) -> Span
     }
 }
 
-// Whether a stored key is the lead, the tag, whose stored length is `measured`, and `rest` bytes more.
+// Whether a stored key is the prefix, the tag, whose stored length is `measured`, and `rest` bytes more.
 fn front_is(
     stored: &[u8],
-    lead: &[u8],
+    prefix: &[u8],
     mode: Mode,
     tag: &[u8],
     measured: usize,
     rest: usize,
 ) -> bool
     requires { ⌜ measured ≡ length (bytesOf mode (now tag)) ⌝ }
-    ensures { λ r. ⌜ r ≡ frontIs (now (stored .entry)) (now (lead .entry) ++ bytesOf mode (now (tag .entry))) rest ⌝ }
+    ensures { λ r. ⌜ r ≡ frontIs (now (stored .entry)) (now (prefix .entry) ++ bytesOf mode (now (tag .entry))) rest ⌝ }
 {
-    let a = lead.len();
+    let a = prefix.len();
     if stored.len() < a {
         return false;
     }
@@ -100,7 +100,7 @@ fn front_is(
         return false;
     }
     let b = a + measured;
-    if !parts::same(Mode::Raw, lead, &stored[..a]) {
+    if !parts::same(Mode::Raw, prefix, &stored[..a]) {
         return false;
     }
     parts::same(mode, tag, &stored[a..b])
@@ -112,20 +112,20 @@ pub fn bytes_to_id(
     lists: &[u8],
     s: Sizes,
     d: usize,
-    lead: &[u8],
+    prefix: &[u8],
     mode: Mode,
     tag: &[u8],
     rest: &[u8],
 ) -> Probe
     requires { ⌜ Fits s (now pages) (now lists) d ⌝ }
-    ensures { λ r. ⌜ Searched s d (now (pages .entry)) (now (lists .entry)) (keyOf (now (lead .entry)) mode (now (tag .entry)) (now (rest .entry))) r ⌝ }
+    ensures { λ r. ⌜ Searched s d (now (pages .entry)) (now (lists .entry)) (keyOf (now (prefix .entry)) mode (now (tag .entry)) (now (rest .entry))) r ⌝ }
 {
     let e = s.e;
     let m = 2 * e;
     let places = 2 * (layout::dict_at(s, d) + m);
     let measured = parts::measure(mode, tag);
     let n = rest.len();
-    let mut j = start(hash(lead, mode, tag, rest), m);
+    let mut j = start(hash(prefix, mode, tag, rest), m);
     let mut t = 0;
     let mut w = 0;
     'probe: loop {
@@ -143,7 +143,7 @@ pub fn bytes_to_id(
             return Probe::Bad;
         };
         let end = at + len;
-        if front_is(&pages[at..end], lead, mode, tag, measured, n) {
+        if front_is(&pages[at..end], prefix, mode, tag, measured, n) {
             let mut left = n;
             loop {
                 if left == 0 {

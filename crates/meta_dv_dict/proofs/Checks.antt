@@ -1,4 +1,4 @@
--- Document 01's M9 to M11, computed on the rule; the one check of all the cards cites this. Assumes nothing.
+-- Document 01's M9 to M11, computed on the rule; the one check of all examples cites this. Assumes nothing.
 use Prim.Native.Nat.{ℕ}
 use mathlib.Core.Path.{_≡_, refl}
 use mathlib.Core.List.{List, [], _∷_, _++_}

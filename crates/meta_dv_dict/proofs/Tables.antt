@@ -18,7 +18,9 @@ use Rattle.words.proofs.Laws.{word-set-same, word-set-other, length-setWord}
 use Rattle.layout.specs.declared.Sizes.{Sizes}
 use Rattle.layout.specs.Sizes.{InRange, kinds, listBytes}
 use Rattle.layout.specs.Fields.{blocksAt, localAt, globalAt, blockWord}
-use Rattle.layout.proofs.Places.{blocks-below, blocks-end, list-bytes}
+use Rattle.layout.specs.Opened.{openedLists}
+use Rattle.layout.proofs.Places.{blocks-below, blocks-from, blocks-end, list-bytes}
+use Rattle.layout.proofs.Opened.{opened-zero}
 use Rattle.meta_dv_dict.specs.Blocks.{Block, free, held, Blocks, noBlocks, pick, took}
 use Rattle.meta_dv_dict.specs.Tables.{localWord, ownerWord, wordOwner, ownerIn, BlocksAt}
 use Rattle.meta_dv_dict.specs.Answers.{written}
@@ -92,6 +94,12 @@ opened-blocks s lists z =
       kind = λ g k l e. not-held e;
       unused = λ k l h. refl;
     }
+
+-- Freshly initialised memory has no block.
+pub init-blocks : (s : Sizes) (lists : Bytes) → BlocksAt s noBlocks (openedLists s lists)
+init-blocks s lists =
+    opened-blocks s (openedLists s lists)
+    (λ i h. opened-zero s lists i (omega (arith, blocks-from s 0, h .0)) (block-fits s i (listBytes s) (omega arith) h))
 
 pub kept-blocks : (s : Sizes) (b : Blocks) (x y : Bytes) → ((i : ℕ) → BlockWord s i → wordAt y i ≡ wordAt x i) → BlocksAt s b x → BlocksAt s b y
 kept-blocks s b x y same T = record {

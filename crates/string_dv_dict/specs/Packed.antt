@@ -34,10 +34,14 @@ unfoldable pub behind : Bytes → Bytes
 behind [] = []
 behind (c ∷ s) = cond (eqb c 62) s (behind s)
 
+-- The byte that is escaped as '\' and c.
+abbrev pub unescape : ℕ → ℕ
+unescape c = cond (eqb c 97) 62 92
+
 -- '\a' as '>', '\\' as '\'; true: after a '\'.
 unfoldable pub unescaped : Bool → Bytes → Bytes
 unescaped b [] = []
-unescaped true (c ∷ s) = cond (eqb c 97) 62 92 ∷ unescaped false s
+unescaped true (c ∷ s) = unescape c ∷ unescaped false s
 unescaped false (c ∷ s) = cond (eqb c 92) (unescaped true s) (c ∷ unescaped false s)
 
 unfoldable pub tagIn : Bytes → Bytes

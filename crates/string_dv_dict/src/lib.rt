@@ -4,13 +4,12 @@ use refusals::Refusal;
 use refusals::Written;
 ghost use mathlib.Core.Path.{_≡_};
 ghost use mathlib.Core.List.{_∷_, _++_};
-ghost use mathlib.Core.Bool.{false, cond};
+ghost use mathlib.Core.Bool.{false};
 ghost use mathlib.Core.Option.{none};
 ghost use Prim.Native.Nat.{_+_, _^_, _≤_, _<_};
-ghost use lib.Dec.{eqb};
 ghost use lib.ListN.{length, drop, getD};
 ghost use lib.Seq.{sets};
-ghost use Rattle.string_dv_dict.specs.Packed.{packed, pairRefusal, before, unescaped};
+ghost use Rattle.string_dv_dict.specs.Packed.{packed, pairRefusal, before, unescape, unescaped};
 ghost use Rattle.string_dv_dict.specs.Answers.{checkedBy, packAnswer, packBuffer, unpackAnswer, unpackBuffer};
 ghost use Rattle.limits.specs.Limits.{packedLimit};
 ghost use Rattle.parts.specs.Parts.{escaped, bytesOf};
@@ -241,7 +240,7 @@ fn locate(form: &[u8]) -> Form
 
 // The byte that is escaped as '\' and c.
 fn unescape_byte(c: u8) -> u8
-    ensures { λ r. ⌜ r ≡ cond (eqb c 97) 62 92 ⌝ }
+    ensures { λ r. ⌜ r ≡ unescape c ⌝ }
 {
     if c == b'a' { b'>' } else { b'\\' }
 }

@@ -1,4 +1,4 @@
-// Runs published vectors and boundary cases through the exported leaf entries and prints what they answer.
+// Runs published vectors and boundary cases through the exported leaf entries and the hash, and prints what they answer.
 // What is right stands in the file stdout.
 mod hash;
 mod ids;

@@ -84,11 +84,16 @@ fn limits() {
 
 fn refused() {
     pack(b"no tag", b"Ein", b"", &mut [0xAA; 8]);
-    pack(b"no text", b"\xFF", b"de", &mut [0xAA; 8]);
-    pack(b"a tag that is no text", b"Ein", b"\xC3", &mut [0xAA; 8]);
-    pack(b"no text comes before no tag", b"\xFF", b"", &mut [0xAA; 8]);
+    pack(b"a text that is not text", b"\xFF", b"de", &mut [0xAA; 8]);
+    pack(b"a tag that is not text", b"Ein", b"\xC3", &mut [0xAA; 8]);
     pack(
-        b"too long comes before no text",
+        b"not text comes before no tag",
+        b"\xFF",
+        b"",
+        &mut [0xAA; 8],
+    );
+    pack(
+        b"too long comes before not text",
         &[0xFF; 4001],
         b"",
         &mut [0xAA; 8],
@@ -112,7 +117,7 @@ fn cut() {
         b"\x01\xC3\xA9",
         &mut [0xAA; 4],
     );
-    unpack(b"tag is no text", b"\x01\xFFEin", &mut [0xAA; 8]);
+    unpack(b"tag is not text", b"\x01\xFFEin", &mut [0xAA; 8]);
     unpack(b"cut form comes before a short buffer", b"", &mut []);
     unpack(b"too long comes before a cut form", &[0; 8003], &mut []);
 }

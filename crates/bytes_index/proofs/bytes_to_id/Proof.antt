@@ -43,21 +43,21 @@ abbrev Q : Bytes → Sizes → ℕ → ℕ → ℕ
 Q lists s d j = quadAt lists (placeAt s d j)
 
 abbrev Inv-loop : tie.InvT-loop
-Inv-loop pages lists s d lead mode tag rest e m places measured n j t w at len end left₀ left =
+Inv-loop pages lists s d prefix mode tag rest e m places measured n j t w at len end left₀ left =
     (left ≤ n) × ((k : ℕ) → left < k → k ≤ n → getD pages (end - k) 0 ≡ getD rest (n - k) 0)
 
 abbrev μ-loop : tie.MeasureT-loop
-μ-loop pages lists s d lead mode tag rest e m places measured n j t w at len end left₀ left = left
+μ-loop pages lists s d prefix mode tag rest e m places measured n j t w at len end left₀ left = left
 
 abbrev Inv-probe : tie.InvT-probe
-Inv-probe pages lists s d lead mode tag rest e m places measured n j₀ t₀ w₀ j t w =
+Inv-probe pages lists s d prefix mode tag rest e m places measured n j₀ t₀ w₀ j t w =
     (t ≤ m)
     × (j < m)
-    × (place m (fnvOf (keyOf lead mode tag rest)) t ≡ j)
-    × ((k : ℕ) → k < t → Passed s (B pages) (W lists s d) (keyOf lead mode tag rest) (Q lists s d (place m (fnvOf (keyOf lead mode tag rest)) k)))
+    × (place m (fnvOf (keyOf prefix mode tag rest)) t ≡ j)
+    × ((k : ℕ) → k < t → Passed s (B pages) (W lists s d) (keyOf prefix mode tag rest) (Q lists s d (place m (fnvOf (keyOf prefix mode tag rest)) k)))
 
 abbrev μ-probe : tie.MeasureT-probe
-μ-probe pages lists s d lead mode tag rest e m places measured n j₀ t₀ w₀ j t w = m - t
+μ-probe pages lists s d prefix mode tag rest e m places measured n j₀ t₀ w₀ j t w = m - t
 
 -- ---- places of the code, seen from later ones
 
@@ -144,7 +144,7 @@ probe-holds : tie.Need-probe-holds Inv-loop μ-loop Inv-probe μ-probe
 probe-holds c =
     let z = c .before .before .before .before .before .before .before .before .before in
     let a = z .args in
-    let h = fnvOf (keyOf (a .lead .now) (a .mode) (a .tag .now) (a .rest .now)) in
+    let h = fnvOf (keyOf (a .prefix .now) (a .mode) (a .tag .now) (a .rest .now)) in
     let m = 2 * a .s .e in
     let e : c .start .result ≡ h % m = c .start .ensures ∙ ap (λ (x : ℕ). x % m) (c .before .hash .ensures) in
     (omega arith, rw e (mod-lt h (omega (arith, z .pre .ranged .e))), place-zero m h ∙ sym e, λ k l. absurd (omega arith))
@@ -274,7 +274,7 @@ probe-again c =
     let p = turn k .probe in
     let q = c .before .before .before .before .before .before .before .before .before .before in
     let r = c .before .before .front-is .ensures in
-    let key = keyOf (a .lead .now) (a .mode) (a .tag .now) (a .rest .now) in
+    let key = keyOf (a .prefix .now) (a .mode) (a .tag .now) (a .rest .now) in
     let w = W (a .lists .now) (a .s) (a .d) in
     let n : Stands (a .s) (B (a .pages .now)) (w (q .quad-at .result - 1)) key → ⊥ =
     ⊎-elim
@@ -297,7 +297,7 @@ returns-5 c =
     let k = c .before .before .before .before .before in
     let a = entered (turn k) .args in
     let q = quad (c .before .before .before .before .before .before .before .before .before .before .before) in
-    let key = keyOf (a .lead .now) (a .mode) (a .tag .now) (a .rest .now) in
+    let key = keyOf (a .prefix .now) (a .mode) (a .tag .now) (a .rest .now) in
     let b = B (a .pages .now) in
     let w = W (a .lists .now) (a .s) (a .d) in
     let t : Stands (a .s) b (w (c .before .before .before .before .before .before .before .before .before .before .before .quad-at .result - 1)) key =

@@ -1,4 +1,4 @@
--- The length of the whole first, then the lead and the tag. Assumes nothing.
+-- The length of the whole first, then the prefix and the tag. Assumes nothing.
 use mathlib.Core.Path.{_≡_, sym, _∙_}
 use mathlib.Core.Bool.{Bool, true, false}
 use mathlib.Core.Logic.{_≢_}
@@ -22,12 +22,12 @@ short x a b n h = sym (front-short x (a ++ b) n (omega (arith, length-append a b
 whole : (x a b : Bytes) (n : ℕ) → length x ≡ length a + length b + n → length x ≡ length (a ++ b) + n
 whole x a b n h = omega (arith, length-append a b)
 
--- The lead is another.
-lead-no : (x a b : Bytes) (n : ℕ) → length x ≡ length a + length b + n → (r : Bool) → r ≡ sameBytes a (take (length a) x) → r ≡ false
+-- The prefix is another.
+prefix-no : (x a b : Bytes) (n : ℕ) → length x ≡ length a + length b + n → (r : Bool) → r ≡ sameBytes a (take (length a) x) → r ≡ false
     → frontIs x (a ++ b) n ≡ false
-lead-no x a b n l r e f = front-parts x a b n (whole x a b n l) ∙ (rw (sym e ∙ f))
+prefix-no x a b n l r e f = front-parts x a b n (whole x a b n l) ∙ (rw (sym e ∙ f))
 
--- The lead stands: the tag decides.
+-- The prefix stands: the tag decides.
 tag-says : (x a b : Bytes) (n m : ℕ) → length x ≡ length a + length b + n → m ≡ length b → (r q : Bool) → r ≡ sameBytes a (take (length a) x) → r ≡ true
     → q ≡ sameBytes b (take (length a + m - length a) (drop (length a) x)) → q ≡ frontIs x (a ++ b) n
 tag-says x a b n m l k r q e f g =
@@ -37,7 +37,7 @@ tag-says x a b n m l k r q e f g =
 returns : tie.Need-returns
 returns c =
     let z = c .before .before .before .before .args in
-    short (z .stored .now) (z .lead .now) (bytesOf (z .mode) (z .tag .now)) (z .rest) (omega arith)
+    short (z .stored .now) (z .prefix .now) (bytesOf (z .mode) (z .tag .now)) (z .rest) (omega arith)
 
 sub-after : tie.Need-sub-after
 sub-after c = search needs
@@ -45,12 +45,12 @@ sub-after c = search needs
 returns-2 : tie.Need-returns-2
 returns-2 c =
     let z = c .before .before .before .before .before .args in
-    short (z .stored .now) (z .lead .now) (bytesOf (z .mode) (z .tag .now)) (z .rest) (omega arith)
+    short (z .stored .now) (z .prefix .now) (bytesOf (z .mode) (z .tag .now)) (z .rest) (omega arith)
 
 returns-3 : tie.Need-returns-3
 returns-3 c =
     let z = c .before .before .before .before .before .before .args in
-    short (z .stored .now) (z .lead .now) (bytesOf (z .mode) (z .tag .now)) (z .rest) (omega arith)
+    short (z .stored .now) (z .prefix .now) (bytesOf (z .mode) (z .tag .now)) (z .rest) (omega arith)
 
 add-b : tie.Need-add-b
 add-b c = search needs
@@ -65,7 +65,7 @@ returns-4 : tie.Need-returns-4
 unfolding bytesOf
 returns-4 c =
     let z = c .before .before .before .before .before .before .before .before .before .args in
-    sym (lead-no (z .stored .now) (z .lead .now) (bytesOf (z .mode) (z .tag .now)) (z .rest) (omega arith) _
+    sym (prefix-no (z .stored .now) (z .prefix .now) (bytesOf (z .mode) (z .tag .now)) (z .rest) (omega arith) _
     (c .before .same .ensures) (not-true _ (c .if4 .taken)))
 
 sub-same : tie.Need-sub-same
@@ -84,7 +84,7 @@ returns-5 : tie.Need-returns-5
 unfolding bytesOf
 returns-5 c =
     let z = c .before .before .before .before .before .before .before .before .before .before .before .args in
-    tag-says (z .stored .now) (z .lead .now) (bytesOf (z .mode) (z .tag .now)) (z .rest) (z .measured) (omega arith) (omega arith) _ _
+    tag-says (z .stored .now) (z .prefix .now) (bytesOf (z .mode) (z .tag .now)) (z .rest) (z .measured) (omega arith) (omega arith) _ _
     (c .before .before .before .same .ensures)
     (not-false _ (c .before .before .if4 .left))
     (c .same2 .ensures)

@@ -1,4 +1,4 @@
--- The hash of the lead is taken on over the tag and the rest. Assumes nothing.
+-- The hash of the prefix is taken on over the tag and the rest. Assumes nothing.
 use mathlib.Core.Path.{sym, ap, _∙_}
 use mathlib.Core.List.{_++_}
 use Prim.Native.Nat.{ℕ}
@@ -24,8 +24,8 @@ returns c =
     let t = bytesOf (z .mode) (z .tag .now) in
     let r = z .rest .now in
     c .fnv-from .ensures
-    ∙ ap (λ (h : ℕ). fnvFrom h r) (c .before .hash-on .ensures ∙ ap (λ (h : ℕ). fnvFrom h t) (c .before .before .fnv .ensures) ∙ sym (fnv-of-append (z .lead .now) t))
-    ∙ sym (fnv-of-append (z .lead .now ++ t) r)
+    ∙ ap (λ (h : ℕ). fnvFrom h r) (c .before .hash-on .ensures ∙ ap (λ (h : ℕ). fnvFrom h t) (c .before .before .fnv .ensures) ∙ sym (fnv-of-append (z .prefix .now) t))
+    ∙ sym (fnv-of-append (z .prefix .now ++ t) r)
 
 pub hash-spec : {M : Type 1} → statement M
 hash-spec = tie.close (tie.spec fnv-requires hash-on-requires fnv-from-requires returns)

@@ -1,59 +1,58 @@
--- Document 01's bench cards M1 to M11, computed together on the definitions that the contracts cite. Assumes nothing.
+-- Document 01's marked bench cards, M1 to M11, said of the definitions that the contracts cite. Assumes nothing.
 use Prim.Native.Nat.{ℕ, _^_}
-use mathlib.Core.Path.{_≡_, refl}
+use mathlib.Core.Path.{_≡_}
 use mathlib.Core.Bool.{true, false}
 use mathlib.Core.List.{List, [], _∷_, _++_}
 use mathlib.Core.Option.{none, some}
-use lib.ListN.{replicate, length}
+use lib.ListN.{replicate, drop}
 use Rattle.slices.specs.Bytes.{Bytes}
-use Rattle.limits.specs.Limits.{nameLimit}
-use Rattle.utf8.specs.Text.{firstOf, isText}
-use Rattle.parts.specs.Parts.{escape, escaped}
-use Rattle.refusals.specs.declared.Refusal.the-variants.{HighNumber}
+use Rattle.utf8.specs.Text.{isText}
+use Rattle.refusals.specs.declared.Refusal.the-variants.{HighNumber, NoBlock}
+use Rattle.refusals.specs.Numbers.{numberOf}
 use Rattle.refusals.specs.declared.Written.the-variants.{Length, Refused}
 use Rattle.ranked_pair_iri_dv_dict.specs.Split.{headOf, lengthOf}
-use Rattle.ranked_pair_dictionary.specs.FrequentId.{furtherBytes, frequentId, fid, writeRefusal, writeAnswer, writeBuffer}
+use Rattle.ranked_pair_dictionary.specs.FrequentId.{writeAnswer, writeBuffer}
 use Rattle.layout.specs.declared.Sizes.{Sizes}
 use Rattle.meta_dv_dict.specs.Rule.{blockRule}
-use Rattle.meta_dv_dict.proofs.Checks.{m9-m10-m11}
-use Rattle.string_dv_dict.specs.Packed.{packed, pairRefusal}
 use Rattle.string_dv_dict.specs.Answers.{packAnswer, packBuffer}
 
 -- ASCII text.
-abbrev http : Bytes
+abbrev pub http : Bytes
 http = 104 ∷ 116 ∷ 116 ∷ 112 ∷ 58 ∷ 47 ∷ 47 ∷ 112 ∷ 47 ∷ 97 ∷ 35 ∷ 98 ∷ []
 
-abbrev press : Bytes
+abbrev pub press : Bytes
 press = 117 ∷ 114 ∷ 110 ∷ 58 ∷ 112 ∷ 114 ∷ 101 ∷ 115 ∷ 115 ∷ []
 
 -- A buffer of n bytes as found.
-abbrev found : ℕ → Bytes
+abbrev pub found : ℕ → Bytes
 found n = replicate n 170
 
 -- 127 times 'a', then '>'.
-abbrev longTag : Bytes
+abbrev pub longTag : Bytes
 longTag = replicate 127 97 ++ 62 ∷ []
 
 -- Block width 4, b blocks.
-abbrev sizes : ℕ → Sizes
+abbrev pub sizes : ℕ → Sizes
 sizes b = record { p = 13; n = 4; e = 100; w = 4; b = b }
 
 -- n IRIs; and n strings after 65 of them, newest first.
-abbrev iris : ℕ → List ℕ
+abbrev pub iris : ℕ → List ℕ
 iris n = replicate n 0
 
-abbrev strings : ℕ → List ℕ
+abbrev pub strings : ℕ → List ℕ
 strings n = replicate n 1 ++ iris 65
 
-pub record Cards : Type 0 where
+pub record Examples : Type 0 where
   -- M1 `http://p/a#b`, M2 `a/`, M3 `urn:press`: the head's length.
   pub m1-m3 : lengthOf (headOf http) ∷ lengthOf (headOf (97 ∷ 47 ∷ [])) ∷ lengthOf (headOf press) ∷ [] ≡ 11 ∷ 2 ∷ 0 ∷ []
+  pub m1-m2-rests : drop (lengthOf (headOf http)) http ∷ drop (lengthOf (headOf (97 ∷ 47 ∷ []))) (97 ∷ 47 ∷ []) ∷ [] ≡ (98 ∷ []) ∷ [] ∷ []
   -- M4 leads of 63, 64, 16,383 and 16,384, in a buffer of 5 bytes.
   pub m4 : writeBuffer 63 (found 5) ∷ writeBuffer 64 (found 5) ∷ writeBuffer 16383 (found 5) ∷ writeBuffer 16384 (found 5) ∷ []
       ≡ (63 ∷ found 4) ∷ (64 ∷ 64 ∷ found 3) ∷ (127 ∷ 255 ∷ found 3) ∷ (128 ∷ 64 ∷ 0 ∷ found 2) ∷ []
   -- M5 the lead of 4,194,304; 2^30 gives 12.
   pub m5 : writeBuffer 4194304 (found 5) ≡ 192 ∷ 64 ∷ 0 ∷ 0 ∷ found 1
   pub m5-answers : writeAnswer 4194304 5 ∷ writeAnswer (2 ^ 30) 5 ∷ [] ≡ Length 4 ∷ Refused HighNumber ∷ []
+  pub m5-number : numberOf HighNumber ≡ 12
   -- M6 text `Ein`, tag `de`.
   pub m6 : packBuffer (69 ∷ 105 ∷ 110 ∷ []) (100 ∷ 101 ∷ []) (found 7) ≡ 2 ∷ 100 ∷ 101 ∷ 69 ∷ 105 ∷ 110 ∷ found 1
   -- M7 a tag of 127 'a' and '>', text empty.
@@ -68,17 +67,4 @@ pub record Cards : Type 0 where
       ∷ blockRule (sizes 8) (iris 65) 1 ∷ blockRule (sizes 8) (strings 16) 1 ∷ blockRule (sizes 8) (strings 32) 1
       ∷ blockRule (sizes 7) (iris 64) 0 ∷ []
       ≡ some 16 ∷ some 32 ∷ some 64 ∷ some 112 ∷ some 48 ∷ some 80 ∷ some 96 ∷ none ∷ []
-
-pub cards : Cards
-unfolding nameLimit firstOf isText escape escaped headOf furtherBytes frequentId fid writeRefusal writeAnswer writeBuffer packed pairRefusal packAnswer packBuffer
-cards = record {
-  m1-m3 = refl;
-  m4 = refl;
-  m5 = refl;
-  m5-answers = refl;
-  m6 = refl;
-  m7 = refl;
-  m7-answer = refl;
-  m8 = refl;
-  m9-m11 = m9-m10-m11;
-}
+  pub m11-number : numberOf NoBlock ≡ 10

@@ -1,0 +1,4 @@
+pub mod Written
+pub mod Store
+pub mod Reading
+pub mod Trace

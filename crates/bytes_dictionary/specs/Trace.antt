@@ -1,0 +1,35 @@
+-- The memories that inserts into several dictionaries reach from zeroed words. Assumes nothing.
+use Prim.Native.Nat.{ℕ, _+_, _*_, _^_, _≤_, _<_}
+use mathlib.Core.Path.{_≡_}
+use lib.ListN.{length}
+use Rattle.slices.specs.Bytes.{Bytes}
+use Rattle.words.specs.Words.{wordAt}
+use Rattle.layout.specs.declared.Sizes.{Sizes}
+use Rattle.layout.specs.Sizes.{dictionaries, pageSize, pageBytes, listBytes}
+use Rattle.layout.specs.Fields.{untakenAt}
+use Rattle.bytes_index.specs.Search.{Searched}
+use Rattle.bytes_index.specs.declared.Probe.the-variants.{Free}
+use Rattle.bytes_buffer.specs.declared.Spot.{Spot}
+use Rattle.bytes_buffer.specs.Spots.{spotIn}
+use Rattle.bytes_dictionary.specs.Written.{pagesAfter, listsAfter, IsSpot}
+use Rattle.bytes_dictionary.specs.Store.{Store, emptyStore, inserted}
+
+-- Every word of `lists` but the format and the sizes is 0.
+abbrev pub Zeroed : Sizes → Bytes → Type 0
+Zeroed s lists = (j : ℕ) → untakenAt ≤ j → 8 * j + 8 ≤ listBytes s → wordAt lists j ≡ 0
+
+-- What was found out before an insert: the search for the key ended at a free place, there is room for one entry more, and the plan has a spot.
+pub record Ready (s : Sizes) (st : Store) (pages lists : Bytes) (d place : ℕ) (spot : Spot) (stamp : ℕ) (key : Bytes) : Type 0 where
+  pub known : d < dictionaries
+  pub searched : Searched s d pages lists key (Free place)
+  pub room : st .count d < s .e
+  pub short : length key ≤ pageSize s
+  pub planned : spotIn s (wordAt lists) d (wordAt lists untakenAt) (length key) ≡ spot
+  pub spotted : IsSpot spot
+  pub stamp-fits : stamp < 2 ^ 64
+
+pub data Reached (s : Sizes) : Store → Bytes → Bytes → Type 0 where
+  opened : {pages lists : Bytes} → pageBytes s ≤ length pages → listBytes s ≤ length lists → Zeroed s lists → Reached s emptyStore pages lists
+  after : {st : Store} {pages lists : Bytes} → Reached s st pages lists → (d place : ℕ) (spot : Spot) (stamp : ℕ) (key : Bytes)
+      → Ready s st pages lists d place spot stamp key
+      → Reached s (inserted s st d key stamp) (pagesAfter s pages spot key) (listsAfter s lists d (st .count d) place spot stamp (length key))

@@ -1,0 +1,49 @@
+-- The memory after an insert. Assumes nothing.
+use Prim.Native.Nat.{ℕ, _+_, _*_, _<_, _≤_}
+use lib.Seq.{sets}
+use Rattle.slices.specs.Bytes.{Bytes}
+use Rattle.words.specs.Words.{setWord, setQuad}
+use Rattle.layout.specs.declared.Sizes.{Sizes}
+use Rattle.layout.specs.Sizes.{pageSize}
+use Rattle.layout.specs.Fields.{countAt, entryAt, orderAt, placeAt, entryWord}
+use Rattle.bytes_buffer.specs.declared.Spot.{Spot}
+use Rattle.bytes_buffer.specs.declared.Spot.the-variants.{Current, Next, NoPage, Bad}
+use Rattle.bytes_buffer.specs.Spots.{extended, tookPage}
+
+-- The words of entry number n: where it lies, its stamp, the index place that names it, and the count.
+unfoldable pub entryWritten : Sizes → Bytes → ℕ → ℕ → ℕ → ℕ → ℕ → ℕ → ℕ → Bytes
+entryWritten s lists d n page offset len stamp place =
+    setWord
+    (setQuad
+    (setWord (setWord lists (entryAt s d n) (entryWord page offset len)) (orderAt s d n) stamp)
+    (placeAt s d place)
+    (n + 1))
+    (countAt d)
+    (n + 1)
+
+-- The key's bytes at its spot; and its words, with those of its page. Where there is no spot nothing is written.
+unfoldable pub pagesAfter : Sizes → Bytes → Spot → Bytes → Bytes
+pagesAfter s pages (Current page offset) key = sets pages (page * pageSize s + offset) key
+pagesAfter s pages (Next page) key = sets pages (page * pageSize s + 0) key
+pagesAfter s pages NoPage key = pages
+pagesAfter s pages Bad key = pages
+
+unfoldable pub listsAfter : Sizes → Bytes → ℕ → ℕ → ℕ → Spot → ℕ → ℕ → Bytes
+listsAfter s lists d n place (Current page offset) stamp len = extended (entryWritten s lists d n page offset len stamp place) page (offset + len)
+listsAfter s lists d n place (Next page) stamp len = tookPage (entryWritten s lists d n page 0 len stamp place) d page len
+listsAfter s lists d n place NoPage stamp len = lists
+listsAfter s lists d n place Bad stamp len = lists
+
+-- A spot that has room for an entry of len bytes, as every plan's has.
+abbrev pub HasRoom : Sizes → ℕ → Spot → Type 0
+HasRoom s len (Current page offset) = (page < s .n) × (offset + len ≤ pageSize s)
+HasRoom s len (Next page) = (page < s .n) × (len ≤ pageSize s)
+HasRoom s len NoPage = Unit {0}
+HasRoom s len Bad = Unit {0}
+
+-- The spots at which an entry can be written.
+abbrev pub IsSpot : Spot → Type 0
+IsSpot (Current page offset) = Unit {0}
+IsSpot (Next page) = Unit {0}
+IsSpot NoPage = ⊥
+IsSpot Bad = ⊥

@@ -1,0 +1,194 @@
+// A dictionary's entries, inserted and read (Nemo's bytes_dictionary.rs). Its search is in bytes_index.
+use bytes_buffer::Spot;
+use bytes_index::Span;
+use layout::COUNT;
+use layout::LENGTH;
+use layout::PAGE_NUMBERS;
+use layout::Sizes;
+use parts::Mode;
+ghost use mathlib.Core.Path.{_≡_};
+ghost use Prim.Native.Nat.{_+_, _*_, _≤_, _<_};
+ghost use lib.ListN.{length, take, drop};
+ghost use lib.Seq.{sets};
+ghost use Rattle.words.specs.Words.{wordAt};
+ghost use Rattle.parts.specs.Parts.{bytesOf};
+ghost use Rattle.layout.specs.Sizes.{InRange, dictionaries, pageSize, listBytes};
+ghost use Rattle.layout.specs.Fields.{countAt, entryWord};
+ghost use Rattle.bytes_index.specs.Search.{keyOf, Fits};
+ghost use Rattle.bytes_dictionary.specs.Written.{entryWritten, pagesAfter, listsAfter, HasRoom};
+ghost use Rattle.bytes_dictionary.specs.Reading.{countIn, Looked};
+
+// An entry's number in its dictionary.
+pub struct EntryId(pub usize);
+
+// How many entries a dictionary has. Bad: the memory is no dictionary's.
+pub enum Counted {
+    Entries(usize),
+    Bad,
+}
+
+pub fn count(lists: &[u8], s: Sizes, d: usize) -> Counted
+    requires { ⌜ InRange s × (listBytes s ≤ length (now lists)) × (d < dictionaries) ⌝ }
+    ensures { λ r. ⌜ r ≡ countIn s (wordAt (now (lists .entry)) (countAt d)) ⌝ }
+{
+    let n = words::word_at(lists, COUNT + 4 * d);
+    let e = s.e;
+    if n <= e {
+        return Counted::Entries(n);
+    }
+    Counted::Bad
+}
+
+// Writes a part of a key into the pages from `at` on: their tail is lent to the byte writer.
+fn write_part(pages: &mut [u8], at: usize, mode: Mode, part: &[u8])
+    requires { ⌜ at + length (bytesOf mode (now part)) ≤ length (now pages) ⌝ }
+    ensures { λ _. ⌜ now (pages .exit) ≡ sets (now (pages .entry)) at (bytesOf mode (now (part .entry))) ⌝ }
+{
+    parts::write(mode, part, &mut pages[at..]);
+}
+
+// Writes a key, one part after the other.
+fn write_key(pages: &mut [u8], at: usize, prefix: &[u8], mode: Mode, tag: &[u8], rest: &[u8])
+    requires { ⌜ at + length (keyOf (now prefix) mode (now tag) (now rest)) ≤ length (now pages) ⌝ }
+    ensures { λ _. ⌜ now (pages .exit) ≡ sets (now (pages .entry)) at (keyOf (now (prefix .entry)) mode (now (tag .entry)) (now (rest .entry))) ⌝ }
+{
+    let b = at + prefix.len();
+    let c = b + parts::measure(mode, tag);
+    write_part(pages, at, Mode::Raw, prefix);
+    write_part(pages, b, mode, tag);
+    write_part(pages, c, Mode::Raw, rest);
+}
+
+// Where an entry lies, in one word.
+fn pack(page: usize, offset: usize, len: usize) -> usize
+    requires { ⌜ (page < 1024) × (offset ≤ 1048576) × (len ≤ 1048576) ⌝ }
+    ensures { λ r. ⌜ r ≡ entryWord page offset len ⌝ }
+{
+    page + PAGE_NUMBERS * offset + LENGTH * len
+}
+
+// Writes the words of entry number n: where it lies, its stamp, the place that names it, and the count.
+fn write_entry(
+    lists: &mut [u8],
+    s: Sizes,
+    d: usize,
+    n: usize,
+    page: usize,
+    offset: usize,
+    len: usize,
+    stamp: usize,
+    place: usize,
+)
+    requires { ⌜ InRange s × (listBytes s ≤ length (now lists)) × (d < dictionaries) × (n < s .e) × (place < 2 * s .e) ⌝ }
+    requires { ⌜ (page < 1024) × (offset ≤ 1048576) × (len ≤ 1048576) ⌝ }
+    ensures { λ _. ⌜ now (lists .exit) ≡ entryWritten s (now (lists .entry)) d n page offset len stamp place ⌝ }
+{
+    let e = s.e;
+    let base = layout::dict_at(s, d);
+    words::put_word(lists, base + n, pack(page, offset, len));
+    words::put_word(lists, base + (e + n), stamp);
+    words::put_quad(lists, 2 * (base + 2 * e) + place, n + 1);
+    words::put_word(lists, COUNT + 4 * d, n + 1);
+}
+
+// What a fresh entry gets: its dictionary and its number there, the index place that names it, and its stamp.
+struct Fresh {
+    d: usize,
+    n: usize,
+    place: usize,
+    stamp: usize,
+}
+
+// Writes an entry at an offset of a page, and gives its length.
+fn write_at(
+    pages: &mut [u8],
+    lists: &mut [u8],
+    s: Sizes,
+    x: Fresh,
+    page: usize,
+    offset: usize,
+    prefix: &[u8],
+    mode: Mode,
+    tag: &[u8],
+    rest: &[u8],
+) -> usize
+    requires { ⌜ Fits s (now pages) (now lists) (x .d) × (x .n < s .e) × (x .place < 2 * s .e) ⌝ }
+    requires { ⌜ (page < s .n) × (offset + length (keyOf (now prefix) mode (now tag) (now rest)) ≤ pageSize s) ⌝ }
+    ensures length { λ r. ⌜ r ≡ length (keyOf (now (prefix .entry)) mode (now (tag .entry)) (now (rest .entry))) ⌝ }
+    ensures pages { λ _. ⌜ now (pages .exit) ≡ sets (now (pages .entry)) (page * pageSize s + offset) (keyOf (now (prefix .entry)) mode (now (tag .entry)) (now (rest .entry))) ⌝ }
+    ensures lists { λ r. ⌜ now (lists .exit) ≡ entryWritten s (now (lists .entry)) (x .d) (x .n) page offset r (x .stamp) (x .place) ⌝ }
+{
+    let len = prefix.len() + parts::measure(mode, tag) + rest.len();
+    let at = page * layout::page_size(s) + offset;
+    write_key(pages, at, prefix, mode, tag, rest);
+    write_entry(lists, s, x.d, x.n, page, offset, len, x.stamp, x.place);
+    len
+}
+
+// Writes a fresh key as entry number n where it was planned. It cannot fail.
+pub fn insert(
+    pages: &mut [u8],
+    lists: &mut [u8],
+    s: Sizes,
+    d: usize,
+    n: usize,
+    place: usize,
+    spot: Spot,
+    stamp: usize,
+    prefix: &[u8],
+    mode: Mode,
+    tag: &[u8],
+    rest: &[u8],
+)
+    requires { ⌜ Fits s (now pages) (now lists) d × (n < s .e) × (place < 2 * s .e) ⌝ }
+    requires { ⌜ HasRoom s (length (keyOf (now prefix) mode (now tag) (now rest))) spot ⌝ }
+    ensures pages { λ _. ⌜ now (pages .exit) ≡ pagesAfter s (now (pages .entry)) spot (keyOf (now (prefix .entry)) mode (now (tag .entry)) (now (rest .entry))) ⌝ }
+    ensures lists { λ _. ⌜ now (lists .exit) ≡ listsAfter s (now (lists .entry)) d n place spot stamp (length (keyOf (now (prefix .entry)) mode (now (tag .entry)) (now (rest .entry)))) ⌝ }
+{
+    let x = Fresh { d, n, place, stamp };
+    match spot {
+        Spot::Current { page, offset } => {
+            let len = write_at(pages, lists, s, x, page, offset, prefix, mode, tag, rest);
+            bytes_buffer::extend(lists, page, offset + len);
+        }
+        Spot::Next(page) => {
+            let len = write_at(pages, lists, s, x, page, 0, prefix, mode, tag, rest);
+            bytes_buffer::take_page(lists, d, page, len);
+        }
+        Spot::NoPage => {}
+        Spot::Bad => {}
+    }
+}
+
+// Where an entry lies in the pages; Nothing from the count up. Bad: the memory is no dictionary's.
+pub enum Lookup {
+    At { at: usize, len: usize },
+    Nothing,
+    Bad,
+}
+
+pub fn locate(lists: &[u8], s: Sizes, d: usize, id: EntryId) -> Lookup
+    requires { ⌜ InRange s × (listBytes s ≤ length (now lists)) × (d < dictionaries) ⌝ }
+    ensures { λ r. ⌜ Looked s d (id .0) (now (lists .entry)) r ⌝ }
+{
+    let i = id.0;
+    let Counted::Entries(n) = count(lists, s, d) else {
+        return Lookup::Bad;
+    };
+    if n <= i {
+        return Lookup::Nothing;
+    }
+    let Span::At { at, len } = bytes_index::entry(lists, s, d, i) else {
+        return Lookup::Bad;
+    };
+    Lookup::At { at, len }
+}
+
+// The bytes of an entry that lies there.
+pub fn id_to_bytes(pages: &[u8], at: usize, len: usize) -> &[u8]
+    requires { ⌜ at + len ≤ length (now pages) ⌝ }
+    ensures { λ r. ⌜ now r ≡ take len (drop at (now (pages .entry))) ⌝ }
+{
+    let end = at + len;
+    &pages[at..end]
+}

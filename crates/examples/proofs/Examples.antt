@@ -1,0 +1,28 @@
+-- All the examples hold, computed together. Assumes nothing.
+use mathlib.Core.Path.{refl}
+use Rattle.limits.specs.Limits.{nameLimit}
+use Rattle.utf8.specs.Text.{firstOf, isText}
+use Rattle.parts.specs.Parts.{escape, escaped}
+use Rattle.ranked_pair_iri_dv_dict.specs.Split.{headOf}
+use Rattle.ranked_pair_dictionary.specs.FrequentId.{furtherBytes, frequentId, fid, writeRefusal, writeAnswer, writeBuffer}
+use Rattle.string_dv_dict.specs.Packed.{packed, pairRefusal}
+use Rattle.string_dv_dict.specs.Answers.{packAnswer, packBuffer}
+use Rattle.meta_dv_dict.proofs.Checks.{m9-m10-m11}
+use Rattle.examples.specs.Examples.{Examples}
+
+pub examples : Examples
+unfolding nameLimit firstOf isText escape escaped headOf furtherBytes frequentId fid writeRefusal writeAnswer writeBuffer packed pairRefusal packAnswer packBuffer
+examples = record {
+  m1-m3 = refl;
+  m1-m2-rests = refl;
+  m4 = refl;
+  m5 = refl;
+  m5-answers = refl;
+  m5-number = refl;
+  m6 = refl;
+  m7 = refl;
+  m7-answer = refl;
+  m8 = refl;
+  m9-m11 = m9-m10-m11;
+  m11-number = refl;
+}

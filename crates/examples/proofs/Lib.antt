@@ -1,0 +1,2 @@
+-- The one computed check.
+pub mod Examples
