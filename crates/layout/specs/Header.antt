@@ -2,7 +2,6 @@
 use Prim.Native.Nat.{ℕ, _+_, _*_, _<_, _≤_}
 use mathlib.Core.Path.{_≡_}
 use mathlib.Core.Bool.{true, false, not, cond}
-use mathlib.Core.Logic.{_⊎_}
 use lib.Dec.{eqb, ltb}
 use lib.ListN.{length, replicate}
 use Rattle.slices.specs.Bytes.{Bytes}

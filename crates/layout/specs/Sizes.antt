@@ -1,13 +1,10 @@
 -- The sizes of a dictionary's memory and their ranges, as document 01 has them. Assumes nothing.
 use Prim.Native.Nat.{ℕ, _+_, _*_, _^_, _≤_}
 use mathlib.Core.Bool.{Bool, _&&_, cond}
-use lib.Dec.{leb}
+pub use Rattle.slices.specs.Ranges.{within as between}
 use Rattle.layout.specs.declared.Sizes.{Sizes}
 use Rattle.layout.specs.declared.Made.{Made}
 use Rattle.layout.specs.declared.Made.the-variants.{Fit, BadSize}
-
-abbrev pub between : ℕ → ℕ → ℕ → Bool
-between lo hi x = leb lo x && leb x hi
 
 -- Page width p, pages n, list length e, block width w, blocks b.
 unfoldable pub inRange : Sizes → Bool

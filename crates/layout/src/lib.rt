@@ -28,6 +28,11 @@ pub const TAKEN: usize = 18;
 
 pub const PAGES: usize = 64;
 
+// For each entry number every dictionary has three words; for each block every kind has one, and the global blocks have one.
+const ENTRY_WORDS: usize = 3 * DICTIONARIES;
+
+const BLOCK_WORDS: usize = KINDS + 1;
+
 // Several numbers in one word. A page: its owner below OWNERS, then its used bytes below OFFSETS, then its position from POSITION up.
 // An entry: its page below PAGE_NUMBERS, then its offset below OFFSETS, then its length from LENGTH up. A block: its kind below OWNERS.
 pub const OWNERS: usize = 16;
@@ -129,7 +134,7 @@ pub fn list_bytes(s: Sizes) -> usize
     requires { ⌜ InRange s ⌝ }
     ensures { λ r. ⌜ r ≡ listBytes s ⌝ }
 {
-    8 * (64 + s.n + 18 * s.e + 5 * s.b)
+    8 * (PAGES + s.n + ENTRY_WORDS * s.e + BLOCK_WORDS * s.b)
 }
 
 // The first word of dictionary d. The blocks' words follow those of the last dictionary.
@@ -137,7 +142,7 @@ pub fn dict_at(s: Sizes, d: usize) -> usize
     requires { ⌜ InRange s × (d ≤ dictionaries) ⌝ }
     ensures { λ r. ⌜ r ≡ dictAt s d ⌝ }
 {
-    64 + s.n + d * (3 * s.e)
+    PAGES + s.n + d * (3 * s.e)
 }
 
 // The first word of kind k's local blocks. The global blocks' words follow those of the last kind.
@@ -145,7 +150,7 @@ pub fn blocks_at(s: Sizes, k: usize) -> usize
     requires { ⌜ InRange s × (k ≤ kinds) ⌝ }
     ensures { λ r. ⌜ r ≡ blocksAt s k ⌝ }
 {
-    64 + s.n + 18 * s.e + k * s.b
+    PAGES + s.n + ENTRY_WORDS * s.e + k * s.b
 }
 
 pub enum Header {

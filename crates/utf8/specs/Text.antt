@@ -1,15 +1,13 @@
 -- The test for UTF-8, one byte at a time. That it accepts what the grammar derives, and nothing else, is proved in proofs/Grammar.antt.
 -- Assumes nothing.
 use Prim.Native.Nat.{ℕ, _-_}
-use mathlib.Core.Bool.{Bool, false, _&&_, cond}
+use mathlib.Core.Bool.{Bool, false, cond}
 use mathlib.Core.List.{[], _∷_}
-use lib.Dec.{eqb, leb}
+use lib.Dec.{eqb}
 use Rattle.slices.specs.Bytes.{Bytes}
+pub use Rattle.slices.specs.Ranges.{within}
 use Rattle.utf8.specs.declared.Step.{Step}
 use Rattle.utf8.specs.declared.Step.the-variants.{Due, Bad}
-
-abbrev pub within : ℕ → ℕ → ℕ → Bool
-within lo hi b = leb lo b && leb b hi
 
 -- `Due n lo hi`: n tail bytes of a character are due, the next one from lo to hi. Between two characters none are.
 abbrev pub between : Step
