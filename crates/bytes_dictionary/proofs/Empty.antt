@@ -1,24 +1,28 @@
--- Zeroed words hold the store with no entry, and so does freshly initialised memory. Assumes nothing.
-use Prim.Native.Nat.{ℕ, zero, suc, _+_, _*_, _/_, _%_, _<_}
+-- A header and zeroed words behind it hold the store with no entry, and so does freshly initialised memory. Assumes nothing.
+use Prim.Native.Nat.{ℕ, zero, suc, _+_, _*_, _/_, _%_, _≤_, _<_}
 use mathlib.Core.Path.{_≡_, refl, sym, subst, _∙_}
 use mathlib.Core.Option.{none, some}
 use native.Mathlib.Omega.{arith}
-use lib.ListN.{getD}
+use lib.ListN.{length, getD}
 use Rattle.slices.specs.Bytes.{Bytes}
 use Rattle.words.specs.Words.{leAt, wordAt, quadAt}
 use Rattle.words.proofs.Laws.{quad-zero}
 use Rattle.layout.specs.declared.Sizes.{Sizes}
-use Rattle.layout.specs.Sizes.{InRange}
-use Rattle.layout.specs.Fields.{countAt, entryAt, placeAt}
+use Rattle.layout.specs.Sizes.{InRange, pageBytes, listBytes}
+use Rattle.layout.specs.Header.{HeaderOf}
+use Rattle.layout.specs.Fields.{untakenAt, countAt, entryAt, placeAt}
 use Rattle.layout.specs.Opened.{openedLists}
-use Rattle.layout.proofs.Opened.{opened-zero}
+use Rattle.layout.proofs.Opened.{opened-zero, opened-header}
 use Rattle.layout.proofs.Places.{dict-from, list-bytes}
 use Rattle.bytes_index.specs.Entries.{Holds}
 use Rattle.bytes_index.proofs.Filled.{filled-none}
 use Rattle.bytes_buffer.proofs.Tables.{opened}
 use Rattle.bytes_dictionary.specs.Store.{emptyStore, StoreAt}
-use Rattle.bytes_dictionary.specs.Trace.{Zeroed}
 use Rattle.bytes_dictionary.proofs.Reading.{words-in}
+
+-- Every word of `lists` but the format and the sizes is 0.
+abbrev pub Zeroed : Sizes → Bytes → Type 0
+Zeroed s lists = (j : ℕ) → untakenAt ≤ j → 8 * j + 8 ≤ listBytes s → wordAt lists j ≡ 0
 
 -- Each byte of a number that is 0 is 0.
 le-zeros : (n : ℕ) (s : Bytes) (b : ℕ) → leAt n s b ≡ 0 → (k : ℕ) → k < n → getD s (b + k) 0 ≡ 0
@@ -52,9 +56,10 @@ holds-none s B W Q z =
     no : {A : Type 0} {key : Bytes} → none ≡ some key → A
     no u = let q : _≡_ {A = ℕ} 0 1 = cc in absurd (omega arith)
 
-pub store-empty : (s : Sizes) (pages lists : Bytes) → InRange s → Zeroed s lists → StoreAt s emptyStore pages lists
-store-empty s pages lists r z =
+pub store-empty : (s : Sizes) (pages lists : Bytes) → InRange s → HeaderOf s (length pages) lists → Zeroed s lists → StoreAt s emptyStore pages lists
+store-empty s pages lists r h z =
     record {
+      header = h;
       paged = opened s (wordAt lists) (λ j l h. z j l (omega (arith, list-bytes s)));
       dict = λ d dl.
           let w = words-in s d r dl .0 in
@@ -69,9 +74,12 @@ store-empty s pages lists r z =
             lies = λ i l. absurd (omega arith);
             rises = λ i l. absurd (omega arith);
             stamped = λ i l. absurd (omega arith);
+            rising = λ i l. absurd (omega arith);
+            unstamped = λ i l. refl;
           };
     }
 
 -- Freshly initialised memory has no entry.
-pub init-store : (s : Sizes) (pages lists : Bytes) → InRange s → StoreAt s emptyStore pages (openedLists s lists)
-init-store s pages lists r = store-empty s pages (openedLists s lists) r (λ j l h. opened-zero s lists j l h)
+pub init-store : (s : Sizes) (pages lists : Bytes) → InRange s → pageBytes s ≤ length pages → listBytes s ≤ length lists
+    → StoreAt s emptyStore pages (openedLists s lists)
+init-store s pages lists r f g = store-empty s pages (openedLists s lists) r (opened-header s (length pages) lists r g f) (λ j l h. opened-zero s lists j l h)

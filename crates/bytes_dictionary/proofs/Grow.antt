@@ -156,6 +156,8 @@ module _ (s : Sizes) (r : InRange s) (pages lists lists′ : Bytes) (d n page of
         lies = lies-same k es c t kl D away;
         rises = rises-same k es c t kl D away;
         stamped = stamped-same k es c t kl D away;
+        rising = D .rising;
+        unstamped = D .unstamped;
       }
     where
       away : (i : ℕ) → i < c → k ≡ d → i ≢ n
@@ -194,9 +196,9 @@ module _ (s : Sizes) (r : InRange s) (pages lists lists′ : Bytes) (d n page of
         ))
         (P .last (pageOf w) p (L .owner))))
 
-    pub dict-own : Misses s (λ j. quadAt lists (placeAt s d j)) es key place
+    pub dict-own : ((i : ℕ) → i + 1 ≡ n → t i < stamp) → Misses s (λ j. quadAt lists (placeAt s d j)) es key place
         → DictAt s (sets pages (page * pageSize s + offset) key) lists′ d (upd es n (some key)) (n + 1) (upd t n stamp)
-    dict-own M =
+    dict-own later M =
         record {
           held = holds-more s (λ a. getD pages a 0) (λ i. wordAt lists (entryAt s d i)) (λ j. quadAt lists (placeAt s d j))
               (λ a. getD (sets pages (page * pageSize s + offset) key) a 0) (λ i. wordAt lists′ (entryAt s d i)) (λ j. quadAt lists′ (placeAt s d j)) es n key place
@@ -217,14 +219,22 @@ module _ (s : Sizes) (r : InRange s) (pages lists lists′ : Bytes) (d n page of
           past = λ i l. upd-other es n (some key) i (omega arith) ∙ D .past i (omega arith);
           lies = each (λ i. Lies (wordAt lists′) d (wordAt lists′ (entryAt s d i))) (lies-same d es n t dl D own)
               (subst (Lies (wordAt lists′) d) (sym (S .entry)) new-lies);
-          rises = λ i l. rising i l (decLt (i + 1) n);
+          rises = λ i l. rises-all i l (decLt (i + 1) n);
           stamped = each (λ i. wordAt lists′ (orderAt s d i) ≡ upd t n stamp i)
               (λ i l. stamped-same d es n t dl D own i l ∙ sym (upd-other t n stamp i (omega arith)))
               (S .order ∙ sym (upd-same t n stamp));
+          rising = λ i l. stamps-rise i l (decLt (i + 1) n);
+          unstamped = λ i l. upd-other t n stamp i (omega arith) ∙ D .unstamped i (omega arith);
         }
       where
-        rising : (i : ℕ) → i + 1 < n + 1 → Dec (i + 1 < n) → Before (wordAt lists′) (wordAt lists′ (entryAt s d i)) (wordAt lists′ (entryAt s d (i + 1)))
-        rising i l (yes h) = rises-same d es n t dl D own i h
-        rising i l (no h) =
+        rises-all : (i : ℕ) → i + 1 < n + 1 → Dec (i + 1 < n) → Before (wordAt lists′) (wordAt lists′ (entryAt s d i)) (wordAt lists′ (entryAt s d (i + 1)))
+        rises-all i l (yes h) = rises-same d es n t dl D own i h
+        rises-all i l (no h) =
             let e : i + 1 ≡ n = omega arith in
             subst (λ (x : ℕ). Before (wordAt lists′) (wordAt lists′ (entryAt s d i)) (wordAt lists′ (entryAt s d x))) (sym e) (rises-new i e)
+
+        stamps-rise : (i : ℕ) → i + 1 < n + 1 → Dec (i + 1 < n) → upd t n stamp i < upd t n stamp (i + 1)
+        stamps-rise i l (yes h) = lt-both _ _ _ _ (upd-other t n stamp i (omega arith)) (upd-other t n stamp (i + 1) (omega arith)) (D .rising i h)
+        stamps-rise i l (no h) =
+            let e : i + 1 ≡ n = omega arith in
+            lt-both _ _ _ _ (upd-other t n stamp i (omega arith)) (ap (upd t n stamp) e ∙ upd-same t n stamp) (later i e)

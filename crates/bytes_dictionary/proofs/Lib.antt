@@ -10,6 +10,8 @@ pub mod Steps
 pub mod Rooms
 pub mod Grow
 pub mod Empty
-pub mod Store
 pub mod Beside
+pub mod Header
+pub mod Agree
+pub mod Store
 pub mod One

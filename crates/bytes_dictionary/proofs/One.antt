@@ -18,7 +18,7 @@ use Rattle.bytes_dictionary.specs.Store.{Store, DictAt, StoreAt}
 pub record SameDict (st st′ : Store) (d : ℕ) : Type 0 where
   pub entries : (i : ℕ) → st .entries d i ≡ st′ .entries d i
   pub count : st .count d ≡ st′ .count d
-  pub stamp : (i : ℕ) → i < st .count d → st .stamp d i ≡ st′ .stamp d i
+  pub stamp : (i : ℕ) → st .stamp d i ≡ st′ .stamp d i
   pub space : st .space d ≡ st′ .space d
 
 pub one-store : (s : Sizes) (st st′ : Store) (pages lists : Bytes) → StoreAt s st pages lists → StoreAt s st′ pages lists
@@ -27,7 +27,7 @@ one-store s st st′ pages lists S S′ d l =
     record {
       entries = λ i. same i (decLt i (st .count d));
       count = counts;
-      stamp = λ i h. sym (D .stamped i h) ∙ D′ .stamped i (omega (arith, counts));
+      stamp = λ i. stamps i (decLt i (st .count d));
       space = one-space s (st .space) (st′ .space) (wordAt lists) d (S .paged) (S′ .paged) l;
     }
   where
@@ -48,3 +48,7 @@ one-store s st st′ pages lists S S′ d l =
         stands-once s (λ a. getD pages a 0) (wordAt lists (entryAt s d i)) (u .0) (v .0) (D .held .entry i (u .0) (u .1) .1) (D′ .held .entry i (v .0) (v .1) .1) in
         u .1 ∙ ap some e ∙ sym (v .1)
     same i (no h) = D .past i (omega arith) ∙ sym (D′ .past i (omega (arith, counts)))
+
+    stamps : (i : ℕ) → Dec (i < st .count d) → st .stamp d i ≡ st′ .stamp d i
+    stamps i (yes h) = sym (D .stamped i h) ∙ D′ .stamped i (omega (arith, counts))
+    stamps i (no h) = D .unstamped i (omega arith) ∙ sym (D′ .unstamped i (omega (arith, counts)))

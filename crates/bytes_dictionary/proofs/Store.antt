@@ -16,6 +16,7 @@ use Rattle.layout.specs.declared.Sizes.{Sizes}
 use Rattle.layout.specs.Sizes.{InRange, dictionaries, pageSize, pageBytes, listBytes}
 use Rattle.layout.specs.Fields.{untakenAt, placeAt}
 use Rattle.layout.proofs.Ranges.{page-size}
+use Rattle.layout.proofs.Opened.{opened-length}
 use Rattle.bytes_index.specs.Entries.{Entries, Misses}
 use Rattle.bytes_index.specs.Search.{Fits}
 use Rattle.bytes_buffer.specs.declared.Spot.{Spot}
@@ -36,7 +37,27 @@ use Rattle.bytes_dictionary.proofs.Updates.{upd-same, upd-other, upd-ea
 use Rattle.bytes_dictionary.proofs.Steps.{Step, length-written, written, tables-kept}
 use Rattle.bytes_dictionary.proofs.Rooms.{Placed, placed-current, placed-next, placed-same, beyond-extended, beyond-took, step-beyond}
 use Rattle.bytes_dictionary.proofs.Grow.{dict-other, dict-own}
-use Rattle.bytes_dictionary.proofs.Empty.{store-empty}
+use Rattle.bytes_dictionary.proofs.Empty.{init-store}
+use Rattle.bytes_dictionary.proofs.Beside.{words-beside}
+use Rattle.bytes_dictionary.proofs.Header.{header-kept}
+
+-- ---- lengths
+
+pub length-pages : (s : Sizes) (pages : Bytes) (spot : Spot) (key : Bytes) → length (pagesAfter s pages spot key) ≡ length pages
+unfolding pagesAfter
+length-pages s pages (Current page offset) key = length-sets pages (page * pageSize s + offset) key
+length-pages s pages (Next page) key = length-sets pages (page * pageSize s + 0) key
+length-pages s pages NoPage key = refl
+length-pages s pages Bad key = refl
+
+pub length-lists : (s : Sizes) (lists : Bytes) (d n place : ℕ) (spot : Spot) (stamp len : ℕ) → length (listsAfter s lists d n place spot stamp len) ≡ length lists
+unfolding listsAfter
+length-lists s lists d n place (Current page offset) stamp len = length-extended _ page (offset + len) ∙ length-written s lists d n page offset len stamp place
+length-lists s lists d n place (Next page) stamp len = length-took _ d page len ∙ length-written s lists d n page 0 len stamp place
+length-lists s lists d n place NoPage stamp len = refl
+length-lists s lists d n place Bad stamp len = refl
+
+-- ---- one insert
 
 -- A dictionary under other names for what it holds.
 dict-as : (s : Sizes) (pages lists : Bytes) (d : ℕ) (es es′ : Entries) (c c′ : ℕ) (t t′ : ℕ → ℕ) → es ≡ es′ → c ≡ c′ → t ≡ t′
@@ -46,14 +67,21 @@ dict-as s pages lists d es es′ c c′ t t′ p q r D =
     (subst (λ (x : ℕ). DictAt s pages lists d es x t′) q (subst (λ (x : ℕ → ℕ). DictAt s pages lists d es c x) r D))
 
 module _ (s : Sizes) (st : Store) (pages lists : Bytes) (d place stamp : ℕ) (key : Bytes) (F : Fits s pages lists d) (S : StoreAt s st pages lists)
-    (room : st .count d < s .e) (short : length key ≤ pageSize s) (stamp-fits : stamp < 2 ^ 64) (pl : place < 2 * s .e)
+    (room : st .count d < s .e) (short : length key ≤ pageSize s) (stamp-fits : stamp < 2 ^ 64)
+    (later : (i : ℕ) → i + 1 ≡ st .count d → st .stamp d i < stamp) (pl : place < 2 * s .e)
     (M : Misses s (λ j. quadAt lists (placeAt s d j)) (st .entries d) key place) where
   -- From what the words are after it, wherever the entry lies.
   finish : (page offset : ℕ) (lists′ : Bytes) → Step s lists lists′ d (st .count d) page offset (length key) stamp place
       → Placed s (wordAt lists) (wordAt lists′) d page offset (length key) → PagesAt s (grownAt s (st .space) d (length key)) (wordAt lists′)
+      → length lists′ ≡ length lists → ((j : ℕ) → j < 6 → wordAt lists′ j ≡ wordAt lists j)
       → StoreAt s (inserted s st d key stamp) (sets pages (page * pageSize s + offset) key) lists′
   unfolding inserted
-  finish page offset lists′ T P H = record { paged = H; dict = λ k kl. go k kl (ℕ-discrete k d) }
+  finish page offset lists′ T P H l w =
+      record {
+        header = header-kept s (length pages) _ lists lists′ (length-sets pages (page * pageSize s + offset) key) l w (S .header);
+        paged = H;
+        dict = λ k kl. go k kl (ℕ-discrete k d);
+      }
     where
       go : (k : ℕ) → k < dictionaries → Dec (k ≡ d)
           → DictAt s (sets pages (page * pageSize s + offset) key) lists′ k (inserted s st d key stamp .entries k) (inserted s st d key stamp .count k)
@@ -64,7 +92,7 @@ module _ (s : Sizes) (st : Store) (pages lists : Bytes) (d place stamp : ℕ) (k
           (inserted s st d key stamp .stamp x)) (sym q)
           (dict-as s _ lists′ d _ _ _ _ _ _ (sym (upd-same (st .entries) d _)) (sym (upd-same (st .count) d _)) (sym (upd-same (st .stamp) d _))
           (dict-own s (F .ranged) pages lists lists′ d (st .count d) page offset stamp place key (F .known) room (F .pages-fit) T P (st .entries d) (st .stamp d)
-          (S .dict d (F .known)) M))
+          (S .dict d (F .known)) later M))
       go k kl (no q) =
           dict-as s _ lists′ k _ _ _ _ _ _ (sym (upd-other (st .entries) d _ k q)) (sym (upd-other (st .count) d _ k q)) (sym (upd-other (st .stamp) d _ k q))
           (dict-other s (F .ranged) pages lists lists′ d (st .count d) page offset stamp place key (F .known) room (F .pages-fit) T P k (st .entries k) (st .count k) (st .stamp k)
@@ -116,6 +144,8 @@ module _ (s : Sizes) (st : Store) (pages lists : Bytes) (d place stamp : ℕ) (k
       (step-beyond s lists L _ d (st .count d) g o (length key) stamp place (F .known) (beyond-extended s L g (o + length key) p) (step₁ g o p i))
       (placed-same s (wordAt lists) (wordAt L) _ d g o (length key) A P)
       H
+      (length-lists s lists d (st .count d) place (Current g o) stamp (length key))
+      (λ j h. words-beside s lists d (st .count d) place stamp (length key) (F .ranged) (F .lists-fit) (F .known) room pl (Current g o) (p, i) j (inl h))
 
   -- At the front of the lowest untaken page.
   store-next : fits (s .p) (st .space d) (length key) ≡ false → allPages (st .space) < s .n
@@ -131,6 +161,8 @@ module _ (s : Sizes) (st : Store) (pages lists : Bytes) (d place stamp : ℕ) (k
       (placed-same s (wordAt lists) (wordAt L) _ d g 0 (length key) (tables₁ g 0 p i)
       (placed-next s (st .space) L d (length key) (F .ranged) (fits₁ g 0 p i) (pages₁ g 0 p i) (F .known) e short p))
       (took-holds s (st .space) L d (length key) (F .ranged) (fits₁ g 0 p i) (pages₁ g 0 p i) (F .known) e short p)
+      (length-lists s lists d (st .count d) place (Next g) stamp (length key))
+      (λ j h. words-beside s lists d (st .count d) place stamp (length key) (F .ranged) (F .lists-fit) (F .known) room pl (Next g) (p, short) j (inl h))
 
   pub store-more : (spot : Spot) → spotIn s (wordAt lists) d (wordAt lists untakenAt) (length key) ≡ spot → IsSpot spot
       → StoreAt s (inserted s st d key stamp) (pagesAfter s pages spot key) (listsAfter s lists d (st .count d) place spot stamp (length key))
@@ -155,29 +187,13 @@ module _ (s : Sizes) (st : Store) (pages lists : Bytes) (d place stamp : ℕ) (k
           absurd
           (subst IsSpot (sym q ∙ plan-unfit s (st .space) W d (W untakenAt) (length key) (S .paged) (F .known) e ∙ ap (nextOf s) low ∙ next-none s (allPages (st .space)) (omega arith)) ok)
 
--- ---- lengths
-
-pub length-pages : (s : Sizes) (pages : Bytes) (spot : Spot) (key : Bytes) → length (pagesAfter s pages spot key) ≡ length pages
-unfolding pagesAfter
-length-pages s pages (Current page offset) key = length-sets pages (page * pageSize s + offset) key
-length-pages s pages (Next page) key = length-sets pages (page * pageSize s + 0) key
-length-pages s pages NoPage key = refl
-length-pages s pages Bad key = refl
-
-pub length-lists : (s : Sizes) (lists : Bytes) (d n place : ℕ) (spot : Spot) (stamp len : ℕ) → length (listsAfter s lists d n place spot stamp len) ≡ length lists
-unfolding listsAfter
-length-lists s lists d n place (Current page offset) stamp len = length-extended _ page (offset + len) ∙ length-written s lists d n page offset len stamp place
-length-lists s lists d n place (Next page) stamp len = length-took _ d page len ∙ length-written s lists d n page 0 len stamp place
-length-lists s lists d n place NoPage stamp len = refl
-length-lists s lists d n place Bad stamp len = refl
-
 -- ---- every insert, and every run of inserts
 
 pub store-insert : (s : Sizes) (st : Store) (pages lists : Bytes) (d place : ℕ) (spot : Spot) (stamp : ℕ) (key : Bytes)
     → InRange s → pageBytes s ≤ length pages → listBytes s ≤ length lists → StoreAt s st pages lists → Ready s st pages lists d place spot stamp key
     → StoreAt s (inserted s st d key stamp) (pagesAfter s pages spot key) (listsAfter s lists d (st .count d) place spot stamp (length key))
 store-insert s st pages lists d place spot stamp key r f g S R =
-    store-more s st pages lists d place stamp key (record { ranged = r; pages-fit = f; lists-fit = g; known = R .known }) S (R .room) (R .short) (R .stamp-fits)
+    store-more s st pages lists d place stamp key (record { ranged = r; pages-fit = f; lists-fit = g; known = R .known }) S (R .room) (R .short) (R .stamp-fits) (R .later)
     (R .searched .range)
     (R .searched .right (st .entries d) (S .dict d (R .known) .held))
     spot
@@ -187,7 +203,8 @@ store-insert s st pages lists d place spot stamp key r f g S R =
 -- The memory that a run of inserts leaves stands for the store that they make.
 pub reached-holds : (s : Sizes) {st : Store} {pages lists : Bytes} → InRange s → Reached s st pages lists
     → (pageBytes s ≤ length pages) × (listBytes s ≤ length lists) × StoreAt s st pages lists
-reached-holds s r (opened {pages = pages} {lists = lists} f g z) = (f, g, store-empty s pages lists r z)
+reached-holds s r (opened pages lists f g) =
+    (f, subst (λ (x : ℕ). listBytes s ≤ x) (sym (opened-length s lists)) g, init-store s pages lists r f g)
 reached-holds s r (after {st = st} {pages = pages} {lists = lists} t d place spot stamp key R) =
     let h = reached-holds s r t in (
       subst (λ (x : ℕ). pageBytes s ≤ x) (sym (length-pages s pages spot key)) (h .0),

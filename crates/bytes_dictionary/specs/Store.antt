@@ -8,6 +8,7 @@ use Rattle.slices.specs.Bytes.{Bytes}
 use Rattle.words.specs.Words.{wordAt}
 use Rattle.layout.specs.declared.Sizes.{Sizes}
 use Rattle.layout.specs.Sizes.{dictionaries}
+use Rattle.layout.specs.Header.{HeaderOf}
 use Rattle.layout.specs.Fields.{countAt, entryAt, orderAt, pageAt, pageOf, offsetOf, sizeOf, ownerOf, usedOf, positionOf}
 use Rattle.bytes_index.specs.Entries.{Entries}
 use Rattle.bytes_index.specs.Search.{Held}
@@ -59,8 +60,14 @@ pub record DictAt (s : Sizes) (pages lists : Bytes) (d : ℕ) (es : Entries) (co
   pub lies : (i : ℕ) → i < count → Lies (wordAt lists) d (wordAt lists (entryAt s d i))
   pub rises : (i : ℕ) → i + 1 < count → Before (wordAt lists) (wordAt lists (entryAt s d i)) (wordAt lists (entryAt s d (i + 1)))
   pub stamped : (i : ℕ) → i < count → wordAt lists (orderAt s d i) ≡ stamp i
+  -- each stamp is above the one before
+  pub rising : (i : ℕ) → i + 1 < count → stamp i < stamp (i + 1)
+  -- where no entry is the stamp is 0, so that one memory stands for one store
+  pub unstamped : (i : ℕ) → count ≤ i → stamp i ≡ 0
 
 -- The memory stands for the store.
 pub record StoreAt (s : Sizes) (st : Store) (pages lists : Bytes) : Type 0 where
+  -- the format and the sizes, so that the header's check passes it
+  pub header : HeaderOf s (length pages) lists
   pub paged : PagesAt s (st .space) (wordAt lists)
   pub dict : (d : ℕ) → d < dictionaries → DictAt s pages lists d (st .entries d) (st .count d) (st .stamp d)

@@ -1,5 +1,5 @@
--- The memories that inserts into several dictionaries reach from zeroed words. Assumes nothing.
-use Prim.Native.Nat.{ℕ, _+_, _*_, _^_, _≤_, _<_}
+-- The memories that inserts into several dictionaries reach from freshly initialised memory. Assumes nothing.
+use Prim.Native.Nat.{ℕ, _+_, _^_, _≤_, _<_}
 use mathlib.Core.Path.{_≡_}
 use lib.ListN.{length}
 use Rattle.slices.specs.Bytes.{Bytes}
@@ -7,6 +7,7 @@ use Rattle.words.specs.Words.{wordAt}
 use Rattle.layout.specs.declared.Sizes.{Sizes}
 use Rattle.layout.specs.Sizes.{dictionaries, pageSize, pageBytes, listBytes}
 use Rattle.layout.specs.Fields.{untakenAt}
+use Rattle.layout.specs.Opened.{openedLists}
 use Rattle.bytes_index.specs.Search.{Searched}
 use Rattle.bytes_index.specs.declared.Probe.the-variants.{Free}
 use Rattle.bytes_buffer.specs.declared.Spot.{Spot}
@@ -14,11 +15,8 @@ use Rattle.bytes_buffer.specs.Spots.{spotIn}
 use Rattle.bytes_dictionary.specs.Written.{pagesAfter, listsAfter, IsSpot}
 use Rattle.bytes_dictionary.specs.Store.{Store, emptyStore, inserted}
 
--- Every word of `lists` but the format and the sizes is 0.
-abbrev pub Zeroed : Sizes → Bytes → Type 0
-Zeroed s lists = (j : ℕ) → untakenAt ≤ j → 8 * j + 8 ≤ listBytes s → wordAt lists j ≡ 0
-
--- What was found out before an insert: the search for the key ended at a free place, there is room for one entry more, and the plan has a spot.
+-- What was found out before an insert: the search for the key ended at a free place, there is room for one entry more, the plan has a spot, and the
+-- stamp is a new one.
 pub record Ready (s : Sizes) (st : Store) (pages lists : Bytes) (d place : ℕ) (spot : Spot) (stamp : ℕ) (key : Bytes) : Type 0 where
   pub known : d < dictionaries
   pub searched : Searched s d pages lists key (Free place)
@@ -27,9 +25,11 @@ pub record Ready (s : Sizes) (st : Store) (pages lists : Bytes) (d place : ℕ) 
   pub planned : spotIn s (wordAt lists) d (wordAt lists untakenAt) (length key) ≡ spot
   pub spotted : IsSpot spot
   pub stamp-fits : stamp < 2 ^ 64
+  -- the stamp is above that of the dictionary's last entry
+  pub later : (i : ℕ) → i + 1 ≡ st .count d → st .stamp d i < stamp
 
 pub data Reached (s : Sizes) : Store → Bytes → Bytes → Type 0 where
-  opened : {pages lists : Bytes} → pageBytes s ≤ length pages → listBytes s ≤ length lists → Zeroed s lists → Reached s emptyStore pages lists
+  opened : (pages lists : Bytes) → pageBytes s ≤ length pages → listBytes s ≤ length lists → Reached s emptyStore pages (openedLists s lists)
   after : {st : Store} {pages lists : Bytes} → Reached s st pages lists → (d place : ℕ) (spot : Spot) (stamp : ℕ) (key : Bytes)
       → Ready s st pages lists d place spot stamp key
       → Reached s (inserted s st d key stamp) (pagesAfter s pages spot key) (listsAfter s lists d (st .count d) place spot stamp (length key))

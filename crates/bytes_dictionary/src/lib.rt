@@ -125,7 +125,7 @@ fn write_at(
     len
 }
 
-// Writes a fresh key as entry number n where it was planned. It cannot fail.
+// Writes a fresh key as entry number n where it was planned. It cannot fail; a plan without a spot has nothing written.
 pub fn insert(
     pages: &mut [u8],
     lists: &mut [u8],

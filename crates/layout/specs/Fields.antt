@@ -3,11 +3,11 @@
 --   1 to 5             the sizes
 --   6                  the lowest untaken page
 --   16 + 4d            dictionary d: its entries; 17 + 4d its current page + 1; 18 + 4d its pages
---   64 + i             page i: owner + 1, used bytes, position among its dictionary's pages
+--   64 + i             page i: its dictionary + 1, used bytes, position among its dictionary's pages
 --   then, for each dictionary, e entry words (page, offset, length), e order words, and 2e index places of four bytes (entry + 1)
 --   then, for each kind, b words: the global block + 1 of each local block
 --   then b words: the kind and local block of each global block
--- Every other word is zero.
+-- Every other word is initialised to zero and never written.
 use Prim.Native.Nat.{ℕ, _+_, _-_, _*_, _/_, _%_}
 use Rattle.layout.specs.declared.Sizes.{Sizes}
 use Rattle.layout.specs.Sizes.{kinds, dictionaries}

@@ -34,7 +34,7 @@ const ENTRY_WORDS: usize = 3 * DICTIONARIES;
 const BLOCK_WORDS: usize = KINDS + 1;
 
 // Several numbers in one word. A page: its owner below OWNERS, then its used bytes below OFFSETS, then its position from POSITION up.
-// An entry: its page below PAGE_NUMBERS, then its offset below OFFSETS, then its length from LENGTH up. A block: its kind below OWNERS.
+// An entry: its page below PAGE_NUMBERS, then its offset below OFFSETS, then its length from LENGTH up. A block: 1, its kind below OWNERS, then its local block.
 pub const OWNERS: usize = 16;
 
 pub const OFFSETS: usize = 2097152;

@@ -34,5 +34,5 @@ pub record BlocksAt (s : Sizes) (b : Blocks) (lists : Bytes) : Type 0 where
   pub sound : Sound (s .w) b
   pub below : Below (s .b) b
   pub kind : (g k l : ℕ) → b .owner g ≡ held k l → k < kinds
-  -- What no memory holds is zero, so that one memory holds one state.
+  -- What no memory holds is zero, so that with the kinds' counts one memory holds one state.
   pub unused : (k l : ℕ) → b .next k ≤ l * 2 ^ s .w → b .place k l ≡ zero

@@ -86,6 +86,14 @@ and-assoc : (a b c : Bool) → (a && (b && c)) ≡ ((a && b) && c)
 and-assoc true b c = refl
 and-assoc false b c = refl
 
+pub and-true : (t : Bool) → t ≡ (t && true)
+and-true true = refl
+and-true false = refl
+
+pub and-false : (t : Bool) → false ≡ (t && false)
+and-false true = refl
+and-false false = refl
+
 -- A comparison, one part after the other.
 pub same-append : (x y s : Bytes) → sameBytes (x ++ y) s ≡ (sameBytes x (take (length x) s) && sameBytes y (drop (length x) s))
 same-append [] y s = refl

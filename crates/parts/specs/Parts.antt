@@ -5,7 +5,7 @@ use mathlib.Core.List.{[], _∷_, _++_}
 use lib.Dec.{eqb}
 use Rattle.slices.specs.Bytes.{Bytes}
 use Rattle.parts.specs.declared.Mode.{Mode}
-use Rattle.parts.specs.declared.Mode.the-variants.{Raw, Escaped}
+use Rattle.parts.specs.declared.Mode.the-variants.{Raw, Escaped, Closed}
 use Rattle.parts.specs.declared.Stored.{Stored}
 use Rattle.parts.specs.declared.Stored.the-variants.{One, Two}
 
@@ -17,9 +17,11 @@ unfoldable pub escaped : Bytes → Bytes
 escaped [] = []
 escaped (b ∷ s) = escape b ++ escaped s
 
+-- Closed: a long tag with the '>' that ends it.
 unfoldable pub bytesOf : Mode → Bytes → Bytes
 bytesOf Raw s = s
 bytesOf Escaped s = escaped s
+bytesOf Closed s = escaped s ++ 62 ∷ []
 
 -- The bytes that the code's answer for one byte holds.
 abbrev pub storedBytes : Stored → Bytes

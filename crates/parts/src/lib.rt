@@ -11,6 +11,8 @@ ghost use Rattle.parts.specs.Parts.{escape, escaped, bytesOf, storedByte
 pub enum Mode {
     Raw,
     Escaped,
+    // A long tag with the '>' that ends it.
+    Closed,
 }
 
 // One byte as it is stored.
@@ -52,6 +54,12 @@ fn measure_escaped(s: &[u8]) -> usize
     n
 }
 
+fn measure_closed(s: &[u8]) -> usize
+    ensures { λ r. ⌜ r ≡ length (escaped (now (s .entry)) ++ 62 ∷ []) ⌝ }
+{
+    measure_escaped(s) + 1
+}
+
 // How many bytes are stored.
 pub fn measure(mode: Mode, s: &[u8]) -> usize
     ensures { λ r. ⌜ r ≡ length (bytesOf mode (now (s .entry))) ⌝ }
@@ -59,6 +67,7 @@ pub fn measure(mode: Mode, s: &[u8]) -> usize
     match mode {
         Mode::Raw => s.len(),
         Mode::Escaped => measure_escaped(s),
+        Mode::Closed => measure_closed(s),
     }
 }
 
@@ -103,6 +112,14 @@ fn write_escaped(s: &[u8], dst: &mut [u8])
     }
 }
 
+fn write_closed(s: &[u8], dst: &mut [u8])
+    requires { ⌜ length (escaped (now s) ++ 62 ∷ []) ≤ length (now dst) ⌝ }
+    ensures { λ _. ⌜ now (dst .exit) ≡ sets (now (dst .entry)) 0 (escaped (now (s .entry)) ++ 62 ∷ []) ⌝ }
+{
+    write_escaped(s, dst);
+    dst[measure_escaped(s)] = b'>';
+}
+
 // Writes the stored bytes at the front of dst, and leaves what is past them.
 pub fn write(mode: Mode, s: &[u8], dst: &mut [u8])
     requires { ⌜ length (bytesOf mode (now s)) ≤ length (now dst) ⌝ }
@@ -111,6 +128,7 @@ pub fn write(mode: Mode, s: &[u8], dst: &mut [u8])
     match mode {
         Mode::Raw => write_raw(s, dst),
         Mode::Escaped => write_escaped(s, dst),
+        Mode::Closed => write_closed(s, dst),
     }
 }
 
@@ -135,6 +153,12 @@ fn hash_escaped(start: u32, s: &[u8]) -> u32
     h
 }
 
+fn hash_closed(start: u32, s: &[u8]) -> u32
+    ensures { λ r. ⌜ r ≡ fnvFrom start (escaped (now (s .entry)) ++ 62 ∷ []) ⌝ }
+{
+    fnv::fnv_step(hash_escaped(start, s), b'>')
+}
+
 // The hash `start` taken on over the stored bytes.
 pub fn hash_on(start: u32, mode: Mode, s: &[u8]) -> u32
     ensures { λ r. ⌜ r ≡ fnvFrom start (bytesOf mode (now (s .entry))) ⌝ }
@@ -142,6 +166,7 @@ pub fn hash_on(start: u32, mode: Mode, s: &[u8]) -> u32
     match mode {
         Mode::Raw => fnv::fnv_from(start, s),
         Mode::Escaped => hash_escaped(start, s),
+        Mode::Closed => hash_closed(start, s),
     }
 }
 
@@ -204,6 +229,19 @@ fn same_escaped(s: &[u8], stored: &[u8]) -> bool
     at == stored.len()
 }
 
+fn same_closed(s: &[u8], stored: &[u8]) -> bool
+    ensures { λ r. ⌜ r ≡ sameBytes (escaped (now (s .entry)) ++ 62 ∷ []) (now (stored .entry)) ⌝ }
+{
+    let n = measure_escaped(s);
+    if stored.len() != n + 1 {
+        return false;
+    }
+    if !byte_stands(stored, n, b'>') {
+        return false;
+    }
+    same_escaped(s, &stored[..n])
+}
+
 // Whether the stored bytes are these.
 pub fn same(mode: Mode, s: &[u8], stored: &[u8]) -> bool
     ensures { λ r. ⌜ r ≡ sameBytes (bytesOf mode (now (s .entry))) (now (stored .entry)) ⌝ }
@@ -211,5 +249,6 @@ pub fn same(mode: Mode, s: &[u8], stored: &[u8]) -> bool
     match mode {
         Mode::Raw => same_raw(s, stored),
         Mode::Escaped => same_escaped(s, stored),
+        Mode::Closed => same_closed(s, stored),
     }
 }

@@ -5,3 +5,4 @@ pub mod Laws
 pub mod Writes
 pub mod Answers
 pub mod Located
+pub mod Keys

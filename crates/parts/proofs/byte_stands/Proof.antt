@@ -1,19 +1,16 @@
 -- Past the end no byte stands. Assumes nothing.
-use mathlib.Core.Path.{_≡_, refl}
+use mathlib.Core.Path.{_≡_}
 use Prim.Native.Nat.{ℕ, _<_, _≤_}
-use mathlib.Core.Bool.{Bool, true, false, _&&_}
+use mathlib.Core.Bool.{false}
 use mathlib.Core.List.{[], _∷_}
 use lib.Dec.{eqb}
 use lib.ListN.{length, getD, take, drop, drop-of-length-le}
 use lib.Seq.{drop-cons}
 use borrow.Author.Needs.{needs}
 use Rattle.slices.specs.Bytes.{Bytes, sameBytes}
+use Rattle.parts.proofs.Laws.{and-true}
 use Rattle.parts.proofs.byte_stands.Statement.{statement}
 use Rattle.parts.proofs.byte_stands.Tie as tie
-
-and-true : (t : Bool) → t ≡ (t && true)
-and-true true = refl
-and-true false = refl
 
 past : (a at : ℕ) (s : Bytes) → length s ≤ at → false ≡ sameBytes (a ∷ []) (take 1 (drop at s))
 past a at s l = rw (drop-of-length-le s l)

@@ -1,6 +1,7 @@
--- Either mode's bytes are stored at the front. Assumes nothing.
+-- Each mode's bytes are stored at the front. Assumes nothing.
 use mathlib.Core.Path.{_∙_}
 use Prim.Native.Nat.{_≤_}
+use mathlib.Core.List.{[], _∷_, _++_}
 use lib.ListN.{length}
 use borrow.Author.Needs.{needs}
 use Rattle.parts.specs.Parts.{escaped, bytesOf}
@@ -17,6 +18,10 @@ long : (c : tie.After-enum-told2) → length (escaped (c .before .before .before
 unfolding bytesOf
 long c = rw (c .enum-told2 .given .1) at (c .before .before .before .before .pre)
 
+ended : (c : tie.After-enum-told3) → length (escaped (c .before .before .before .before .args .s .now) ++ 62 ∷ []) ≤ length (c .before .before .before .before .args .dst .now)
+unfolding bytesOf
+ended c = rw (c .enum-told3 .given .1) at (c .before .before .before .before .pre)
+
 enum-told : tie.Need-enum-told
 enum-told c = search needs
 
@@ -28,6 +33,12 @@ enum-told-2 c = search needs
 
 write-escaped-requires : tie.Need-write-escaped-requires
 write-escaped-requires c κs = long (c .before)
+
+enum-told-3 : tie.Need-enum-told-3
+enum-told-3 c = search needs
+
+write-closed-requires : tie.Need-write-closed-requires
+write-closed-requires c κs = ended (c .before)
 
 same-length : tie.Need-same-length
 same-length c = search needs
@@ -49,6 +60,16 @@ returns-2 c =
     let z = a .before .before .before .before .args in
     rw (a .enum-told2 .given .1) (c .before .before .write-escaped .ensures ∙ sets-front (escaped (z .s .now)) (z .dst .now) (long a))
 
+same-length-3 : tie.Need-same-length-3
+same-length-3 c = search needs
+
+returns-3 : tie.Need-returns-3
+unfolding bytesOf
+returns-3 c =
+    let a = c .before .before .before .before in
+    let z = a .before .before .before .before .args in
+    rw (a .enum-told3 .given .1) (c .before .before .write-closed .ensures ∙ sets-front (escaped (z .s .now) ++ 62 ∷ []) (z .dst .now) (ended a))
+
 pub write-spec : {M : Type 1} → statement M
 write-spec =
     tie.close
@@ -57,7 +78,11 @@ write-spec =
     write-raw-requires
     enum-told-2
     write-escaped-requires
+    enum-told-3
+    write-closed-requires
     same-length
     returns
     same-length-2
-    returns-2)
+    returns-2
+    same-length-3
+    returns-3)
