@@ -10,15 +10,19 @@ use native.Mathlib.Omega.{arith}
 use lib.ListN.{length, take, drop, getD, length-drop}
 use lib.Seq.{take-all, drop-drop, length-take-le}
 use Rattle.slices.specs.Bytes.{Bytes}
-use Rattle.slices.proofs.Tests.{Split, split}
+use borrow.Author.Tests.{eqb-true, eqb-false, ne-eqb}
+use lib.Dec.{eqb}
+use Rattle.slices.proofs.Tests.{Split, split, clash}
 use Rattle.utf8.specs.Text.{isText}
 use Rattle.parts.specs.Parts.{escaped}
 use Rattle.string_dv_dict.specs.declared.Scan.the-variants.{Plain}
 use Rattle.string_dv_dict.specs.Packed.{pairRefusal, before, behind, unescaped, tagIn, textIn, accepted}
-use Rattle.string_dv_dict.specs.Scans.{scanFrom, ShortForm, LongForm}
+use Rattle.string_dv_dict.specs.declared.Form.{Form}
+use Rattle.string_dv_dict.specs.declared.Form.the-variants as F
+use Rattle.string_dv_dict.specs.Scans.{scanFrom, formOf, ShortForm, LongForm, Located}
 use Rattle.string_dv_dict.proofs.Escapes.{read-escaped, scan-escaped, scan-good, take-before, before-split}
 use Rattle.string_dv_dict.proofs.Text.{text-escaped}
-use Rattle.string_dv_dict.proofs.Laws.{short-form, Short, accepted-short, short-accepted, Long, accepted-long, long-accepted}
+use Rattle.string_dv_dict.proofs.Laws.{legal, unpack-pack, short-form, Short, accepted-short, short-accepted, Long, accepted-long, long-accepted}
 
 -- A part that runs to the end, and one that starts behind the first byte.
 pub to-end : (s : Bytes) (k : ℕ) → take (length s - k) (drop k s) ≡ drop k s
@@ -38,14 +42,32 @@ not-accepted form never = go (split (accepted form))
     go (inl p) = absurd (never p)
     go (inr p) = p
 
+-- ---- what the code answers, and what that says of the form
+
+pub cut-is : (form : Bytes) → accepted form ≡ false → F.Cut ≡ formOf form
+unfolding formOf
+cut-is form p = rw p
+
+empty-cut : accepted [] ≡ false
+unfolding tagIn
+empty-cut = not-accepted [] (λ p. clash refl (legal (textIn []) (tagIn []) (unpack-pack [] p .0) .tagged))
+
+pub empty : (form : Bytes) → length form ≡ 0 → F.Cut ≡ formOf form
+empty [] e = cut-is [] empty-cut
+empty (n ∷ s) e = absurd (omega arith)
+
 -- ---- a short tag
 
 module _ (form s : Bytes) (n : ℕ) (w : n ∷ s ≡ form) (z : n ≢ 0) where
-  pub short-cut : (Short n s → ⊥) → accepted form ≡ false
-  short-cut never = not-accepted form (λ p. never (accepted-short n s z (ap accepted w ∙ p)))
+  pub short-cut : (Short n s → ⊥) → F.Cut ≡ formOf form
+  short-cut never = cut-is form (not-accepted form (λ p. never (accepted-short n s z (ap accepted w ∙ p))))
 
-  pub short-found : Short n s → ShortForm form n
-  short-found h =
+  pub short-found : Short n s → F.Short n ≡ formOf form
+  unfolding formOf
+  short-found h = subst (λ (f : Bytes). F.Short n ≡ formOf f) w (rw (short-accepted n s z h, ne-eqb n 0 z))
+
+  short-located : Short n s → ShortForm form n
+  short-located h =
       subst (λ (f : Bytes). ShortForm f n) w
       (record {
         taken = short-accepted n s z h;
@@ -100,12 +122,16 @@ pub whole-long : (form : Bytes) → 0 < length form → getD form 0 0 ≡ 0 → 
 whole-long form l z = ap (λ (s : Bytes). 0 ∷ s) (to-end form 1) ∙ ap (λ (n : ℕ). n ∷ drop 1 form) (sym z) ∙ whole form l
 
 module _ (form s : Bytes) (w : 0 ∷ s ≡ form) where
-  pub long-cut : (Long s → ⊥) → accepted form ≡ false
-  long-cut never = not-accepted form (λ p. never (accepted-long s (ap accepted w ∙ p)))
+  pub long-cut : (Long s → ⊥) → F.Cut ≡ formOf form
+  long-cut never = cut-is form (not-accepted form (λ p. never (accepted-long s (ap accepted w ∙ p))))
 
-  pub long-found : (end n : ℕ) → end ≡ length (before s) → n ≡ length (unescaped false (before s)) → Long s → LongForm form end n
+  pub long-found : (end n : ℕ) → end ≡ length (before s) → n ≡ length (unescaped false (before s)) → Long s → F.Long end n ≡ formOf form
+  unfolding formOf
+  long-found end n e f h = subst (λ (x : Bytes). F.Long end n ≡ formOf x) w (rw (long-accepted s h, e, f))
+
+  long-located : (end n : ℕ) → end ≡ length (before s) → n ≡ length (unescaped false (before s)) → Long s → LongForm form end n
   unfolding textIn tagIn
-  long-found end n e f h =
+  long-located end n e f h =
       let g : end + 2 ≡ suc (suc end) = omega arith in
       subst (λ (x : Bytes). LongForm x end n) w
       (record {
@@ -122,3 +148,26 @@ module _ {form : Bytes} {end n : ℕ} (h : LongForm form end n) where
 
   pub long-tag : unescaped false (take (end + 1 - 1) (drop 1 form)) ≡ tagIn form
   long-tag = rw (behind-first form end, ← h .tag) (read-escaped (tagIn form))
+
+-- ---- every answer
+
+taken-located : (form : Bytes) → accepted form ≡ true → Located form (formOf form)
+taken-located [] p = clash p empty-cut
+taken-located (n ∷ s) p = go (split (eqb n 0))
+  where
+    go : Split (eqb n 0) → Located (n ∷ s) (formOf (n ∷ s))
+    go (inl q) =
+        let w : 0 ∷ s ≡ n ∷ s = ap (λ (b : ℕ). b ∷ s) (sym (eqb-true n 0 q)) in
+        let h : Long s = accepted-long s (ap accepted w ∙ p) in
+        subst (λ (r : Form). Located (n ∷ s) r) (long-found (n ∷ s) s w _ _ refl refl h) (long-located (n ∷ s) s w _ _ refl refl h)
+    go (inr q) =
+        let z : n ≢ 0 = eqb-false n 0 q in
+        let h : Short n s = accepted-short n s z p in
+        subst (λ (r : Form). Located (n ∷ s) r) (short-found (n ∷ s) s n refl z h) (short-located (n ∷ s) s n refl z h)
+
+pub form-located : (form : Bytes) → Located form (formOf form)
+form-located form = go (split (accepted form))
+  where
+    go : Split (accepted form) → Located form (formOf form)
+    go (inl p) = taken-located form p
+    go (inr p) = subst (λ (r : Form). Located form r) (cut-is form p) p

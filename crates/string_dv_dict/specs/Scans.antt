@@ -11,7 +11,7 @@ use Rattle.string_dv_dict.specs.declared.Scan.{Scan}
 use Rattle.string_dv_dict.specs.declared.Scan.the-variants.{Plain, Escape, Bad}
 use Rattle.string_dv_dict.specs.declared.Form.{Form}
 use Rattle.string_dv_dict.specs.declared.Form.the-variants.{Short, Long, Cut}
-use Rattle.string_dv_dict.specs.Packed.{accepted, tagIn, textIn}
+use Rattle.string_dv_dict.specs.Packed.{accepted, tagIn, textIn, before, unescaped}
 
 -- One more byte of an escaped tag.
 abbrev pub scanStep : Scan → ℕ → Scan
@@ -42,6 +42,15 @@ pub record LongForm (form : Bytes) (end n : ℕ) : Type 0 where
   pub within : end + 2 ≤ length form
   pub tagLength : length (tagIn form) ≡ n
 
+-- Where the parts of a form lie: in a long one by its first '>'.
+abbrev pub shapeOf : Bytes → Form
+shapeOf [] = Cut
+shapeOf (n ∷ s) = cond (eqb n 0) (Long (length (before s)) (length (unescaped false (before s)))) (Short n)
+
+unfoldable pub formOf : Bytes → Form
+formOf form = cond (accepted form) (shapeOf form) Cut
+
+-- What its answer says of a form.
 abbrev pub Located : Bytes → Form → Type 0
 Located form (Short n) = ShortForm form n
 Located form (Long end n) = LongForm form end n

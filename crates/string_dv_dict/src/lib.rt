@@ -13,7 +13,7 @@ ghost use Rattle.string_dv_dict.specs.Packed.{packed, pairRefusal, befor
 ghost use Rattle.string_dv_dict.specs.Answers.{checkedBy, packAnswer, packBuffer, unpackAnswer, unpackBuffer};
 ghost use Rattle.limits.specs.Limits.{packedLimit};
 ghost use Rattle.parts.specs.Parts.{escaped, bytesOf};
-ghost use Rattle.string_dv_dict.specs.Scans.{scanStep, scanFrom, scanned, Located, ShortForm, LongForm};
+ghost use Rattle.string_dv_dict.specs.Scans.{scanStep, scanFrom, scanned, formOf, ShortForm, LongForm};
 
 // Whether a text and a tag are a tagged string, or why not.
 pub enum Checked {
@@ -179,7 +179,7 @@ fn scan_tag(s: &[u8]) -> Scan
 
 fn locate_short(form: &[u8]) -> Form
     requires { ⌜ (0 < length (now form)) × (0 < getD (now form) 0 0) ⌝ }
-    ensures { λ r. ⌜ Located (now (form .entry)) r ⌝ }
+    ensures { λ r. ⌜ r ≡ formOf (now (form .entry)) ⌝ }
 {
     let n = form[0] as usize;
     if 127 < n {
@@ -197,7 +197,7 @@ fn locate_short(form: &[u8]) -> Form
 
 fn locate_long(form: &[u8]) -> Form
     requires { ⌜ (0 < length (now form)) × (getD (now form) 0 0 ≡ 0) ⌝ }
-    ensures { λ r. ⌜ Located (now (form .entry)) r ⌝ }
+    ensures { λ r. ⌜ r ≡ formOf (now (form .entry)) ⌝ }
 {
     let s = &form[1..];
     let end = find_end(s);
@@ -226,7 +226,7 @@ fn locate_long(form: &[u8]) -> Form
 
 // Where the parts of a packed form lie; Cut where packing makes no such form.
 fn locate(form: &[u8]) -> Form
-    ensures { λ r. ⌜ Located (now (form .entry)) r ⌝ }
+    ensures { λ r. ⌜ r ≡ formOf (now (form .entry)) ⌝ }
 {
     if form.len() == 0 {
         return Form::Cut;

@@ -1,22 +1,8 @@
 -- By the first byte; the empty form is none. Assumes nothing.
-use mathlib.Core.Path.{_≡_, refl}
-use mathlib.Core.Bool.{false}
-use mathlib.Core.List.{[], _∷_}
-use native.Mathlib.Omega.{arith}
-use lib.ListN.{length}
 use borrow.Author.Needs.{needs}
-use Rattle.slices.specs.Bytes.{Bytes}
-use Rattle.slices.proofs.Tests.{clash}
-use Rattle.string_dv_dict.specs.Packed.{textIn, tagIn, accepted}
-use Rattle.string_dv_dict.proofs.Laws.{legal, unpack-pack}
-use Rattle.string_dv_dict.proofs.Located.{not-accepted}
+use Rattle.string_dv_dict.proofs.Located.{empty}
 use Rattle.string_dv_dict.proofs.locate.Statement.{statement}
 use Rattle.string_dv_dict.proofs.locate.Tie as tie
-
-empty : (form : Bytes) → length form ≡ 0 → accepted form ≡ false
-unfolding tagIn
-empty [] e = not-accepted [] (λ p. clash refl (legal (textIn []) (tagIn []) (unpack-pack [] p .0) .tagged))
-empty (n ∷ s) e = absurd (omega arith)
 
 returns : tie.Need-returns
 returns c = empty (c .before .before .args .form .now) (c .if1 .taken)

@@ -16,7 +16,9 @@ use Rattle.parts.specs.Parts.{escaped}
 use Rattle.parts.proofs.Laws.{length-escaped}
 use Rattle.string_dv_dict.specs.declared.Scan.{Scan}
 use Rattle.string_dv_dict.specs.declared.Scan.the-variants.{Plain}
-use Rattle.string_dv_dict.specs.Packed.{before, behind, unescaped, accepted}
+use Rattle.string_dv_dict.specs.declared.Form.the-variants.{Cut}
+use Rattle.string_dv_dict.specs.Scans.{formOf}
+use Rattle.string_dv_dict.specs.Packed.{before, behind, unescaped}
 use Rattle.string_dv_dict.proofs.Scan.{the-type}
 use Rattle.string_dv_dict.proofs.Escapes.{length-before}
 use Rattle.string_dv_dict.proofs.Laws.{filled, legal, is-legal, Long}
@@ -42,7 +44,7 @@ not-plain r n k e = go (rw e at k)
     go (inl p) = omega arith
     go (inr p) = omega arith
 
-cut : (z : tie.Start) → (Long (rest (z .args .form .now)) → ⊥) → accepted (z .args .form .now) ≡ false
+cut : (z : tie.Start) → (Long (rest (z .args .form .now)) → ⊥) → Cut ≡ formOf (z .args .form .now)
 cut z = let form = z .args .form .now in long-cut form (rest form) (whole-long form (z .pre .0) (z .pre .1))
 
 -- The first '>' stands in the form.

@@ -1,12 +1,13 @@
 -- Each refusal, and either form. Assumes nothing.
 use Prim.Native.Nat.{_≤_}
-use mathlib.Core.Path.{_≡_, sym, subst}
+use mathlib.Core.Path.{_≡_, sym, subst, _∙_}
 use native.Mathlib.Omega.{arith}
 use lib.ListN.{length}
 use borrow.Author.Needs.{needs}
 use Rattle.limits.specs.Limits.{packedLimit}
 use Rattle.string_dv_dict.specs.declared.Form.{Form}
 use Rattle.string_dv_dict.specs.Scans.{Located}
+use Rattle.string_dv_dict.proofs.Located.{form-located}
 use Rattle.string_dv_dict.proofs.Answers.{unpack-long-form, unpack-cut}
 use Rattle.string_dv_dict.proofs.one_string_to_two.Statement.{statement}
 use Rattle.string_dv_dict.proofs.one_string_to_two.Tie as tie
@@ -16,7 +17,9 @@ size c = omega (arith, c .if1 .left, c .before .packed-limit .ensures)
 
 -- What was located, by the answer.
 located : (c : tie.After-locate) (r : Form) → c .locate .result ≡ r → Located (c .before .before .before .before .before .args .form .now) r
-located c r e = subst (λ (x : Form). Located (c .before .before .before .before .before .args .form .now) x) e (c .locate .ensures)
+located c r e =
+    let form = c .before .before .before .before .before .args .form .now in
+    subst (λ (x : Form). Located form x) (sym (c .locate .ensures) ∙ e) (form-located form)
 
 packed-limit-requires : tie.Need-packed-limit-requires
 packed-limit-requires c κs = search needs
