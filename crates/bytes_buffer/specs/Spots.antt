@@ -44,6 +44,13 @@ InPages s untaken n (Next page) = (page ≡ untaken) × (page < s .n)
 InPages s untaken n NoPage = s .n ≤ untaken
 InPages s untaken n Bad = Unit {0}
 
+-- The lowest untaken page after an entry at a spot.
+abbrev pub untakenAfter : ℕ → Spot → ℕ
+untakenAfter untaken (Current page offset) = untaken
+untakenAfter untaken (Next page) = untaken + 1
+untakenAfter untaken NoPage = untaken
+untakenAfter untaken Bad = untaken
+
 -- ---- the words after an entry
 
 -- A page's word with another used part.

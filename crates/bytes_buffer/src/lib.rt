@@ -1,11 +1,11 @@
 // Pages (Nemo's bytes_buffer.rs): who owns one, how far it is used, and where the next entry goes. The pages' own bytes are written elsewhere.
 ghost use mathlib.Core.Path.{_≡_};
-ghost use Prim.Native.Nat.{_+_, _*_, _≤_, _<_};
+ghost use Prim.Native.Nat.{_+_, _*_, _^_, _≤_, _<_};
 ghost use lib.ListN.{length};
 ghost use Rattle.words.specs.Words.{wordAt};
 ghost use Rattle.layout.specs.Sizes.{InRange, dictionaries, pageSize, listBytes};
 ghost use Rattle.layout.specs.Fields.{untakenAt, pageAt};
-ghost use Rattle.bytes_buffer.specs.Spots.{lowestOf, nextOf, spotIn, InPages, extended, tookPage};
+ghost use Rattle.bytes_buffer.specs.Spots.{lowestOf, nextOf, spotIn, InPages, untakenAfter, extended, tookPage};
 use layout::CURRENT;
 use layout::OFFSETS;
 use layout::OWNERS;
@@ -78,6 +78,19 @@ pub fn plan(lists: &[u8], s: Sizes, d: usize, untaken: usize, len: usize) -> Spo
         return Spot::Current { page, offset: used };
     }
     next(s, untaken)
+}
+
+// The lowest untaken page after an entry there: what the plan of a second entry starts from.
+pub fn untaken_after(untaken: usize, spot: Spot) -> usize
+    requires { ⌜ untaken + 1 < 2 ^ 64 ⌝ }
+    ensures { λ r. ⌜ r ≡ untakenAfter untaken spot ⌝ }
+{
+    match spot {
+        Spot::Current { page: _, offset: _ } => untaken,
+        Spot::Next(_) => untaken + 1,
+        Spot::NoPage => untaken,
+        Spot::Bad => untaken,
+    }
 }
 
 // The page is used up to here; its owner and its position stay.

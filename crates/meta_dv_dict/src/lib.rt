@@ -1,7 +1,7 @@
 // The block rules (Nemo's meta_dv_dict.rs): which global block a kind's next local number is in, and the ways between local and global numbers.
 // Only this file converts one into the other. The memory may be anybody's: every number read from it is tested.
 ghost use mathlib.Core.Path.{_≡_};
-ghost use Prim.Native.Nat.{_+_, _-_, _*_, _/_, _^_, _≤_, _<_};
+ghost use Prim.Native.Nat.{_+_, _-_, _*_, _/_, _%_, _^_, _≤_, _<_};
 ghost use lib.ListN.{length};
 ghost use Rattle.words.specs.Words.{wordAt};
 ghost use Rattle.layout.specs.Sizes.{InRange, kinds, listBytes};
@@ -112,6 +112,16 @@ pub fn take_block(lists: &mut [u8], s: Sizes, k: usize, local: LocalId, g: usize
     words::put_word(lists, layout::blocks_at(s, KINDS) + g, 1 + k + OWNERS * l);
 }
 
+// The global number of a local number that is in the block g.
+pub fn number_in(s: Sizes, g: usize, local: LocalId) -> GlobalId
+    requires { ⌜ InRange s × (g < s .b) ⌝ }
+    ensures { λ r. ⌜ r ≡ record { 0 = g * 2 ^ s .w + local .0 % 2 ^ s .w } ⌝ }
+{
+    let size = block_size(s);
+    let rest = local.0 % size;
+    GlobalId(g * size + rest)
+}
+
 // A global number, or the memory is no dictionary's.
 pub enum Number {
     Global(GlobalId),
@@ -124,16 +134,14 @@ pub fn local_to_global(lists: &[u8], s: Sizes, k: usize, local: LocalId) -> Numb
     ensures { λ r. ⌜ Globals s (now (lists .entry)) k (local .0) r ⌝ }
 {
     let n = local.0;
-    let size = block_size(s);
-    let l = n / size;
+    let l = n / block_size(s);
     if s.b <= l {
         return Number::Bad;
     }
     let Held::In(g) = held_in(lists, s, k, l) else {
         return Number::Bad;
     };
-    let rest = n % size;
-    Number::Global(GlobalId(g * size + rest))
+    Number::Global(number_in(s, g, local))
 }
 
 // What a global number is by its block.

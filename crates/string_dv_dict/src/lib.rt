@@ -35,7 +35,7 @@ enum Scan {
 }
 
 // Where a packed form's parts lie. Short: the tag's length. Long: how long the escaped tag is, and the tag itself.
-enum Form {
+pub enum Form {
     Short(usize),
     Long(usize, usize),
     Cut,
@@ -225,7 +225,7 @@ fn locate_long(form: &[u8]) -> Form
 }
 
 // Where the parts of a packed form lie; Cut where packing makes no such form.
-fn locate(form: &[u8]) -> Form
+pub fn locate(form: &[u8]) -> Form
     ensures { λ r. ⌜ r ≡ formOf (now (form .entry)) ⌝ }
 {
     if form.len() == 0 {
@@ -246,7 +246,7 @@ fn unescape_byte(c: u8) -> u8
 }
 
 // Writes an escaped tag at `start`, its escapes undone.
-fn write_unescaped(s: &[u8], dst: &mut [u8], start: usize)
+pub fn write_unescaped(s: &[u8], dst: &mut [u8], start: usize)
     requires { ⌜ start + length (unescaped false (now s)) ≤ length (now dst) ⌝ }
     ensures { λ _. ⌜ now (dst .exit) ≡ sets (now (dst .entry)) start (unescaped false (now (s .entry))) ⌝ }
 {

@@ -38,33 +38,19 @@ returns-2 c =
     globals-bad (a .args .s) _ _ _ _ (a .pre .2) (z .block-size .ensures .0)
     (sym (h .held-in .ensures) ∙ not-in (h .held-in .result) (c .before .match .keys2))
 
-rem-rest : tie.Need-rem-rest
-rem-rest c = search needs
-
-product : (c : tie.After-known-told) → c .before .g .given .0 .0 * c .before .before .before .before .before .before .block-size .result ≤ 68702699520
-product c =
+number-in-requires : tie.Need-number-in-requires
+number-in-requires c κs =
     let h = c .before .before .before in
-    let z = h .before .before .before in
-    let a = z .before .before .args in
-    let g = c .before .g .given .0 .0 in
-    let l : g < a .s .b = held-below _ _ g (sym (h .held-in .ensures) ∙ c .before .g .given .1) in
-    number-fits g (z .block-size .result) (omega arith) (omega arith)
-
-mul-t12 : tie.Need-mul-t12
-mul-t12 c = omega (arith, product c)
-
-add-t13 : tie.Need-add-t13
-add-t13 c =
-    let z = c .before .before .before .before .before .before in
-    let p : 0 < z .block-size .result = omega arith in
-    omega (arith, product c, mod-lt (z .before .before .args .local .0) p)
+    let a = h .before .before .before .before .before in
+    (a .pre .0, held-below _ _ (c .before .g .given .0 .0) (sym (h .held-in .ensures) ∙ c .before .g .given .1))
 
 returns-3 : tie.Need-returns-3
 returns-3 c =
-    let h = c .before .before .before in
+    let h = c .before .before .before .before in
     let z = h .before .before .before in
     let a = z .before .before in
-    globals-there (a .args .s) _ _ _ _ (a .pre .2) (z .block-size .ensures .0) _ (sym (h .held-in .ensures) ∙ c .before .g .given .1)
+    rw (c .number-in .ensures, ← z .block-size .ensures .0)
+    (globals-there (a .args .s) _ _ _ _ (a .pre .2) (z .block-size .ensures .0) _ (sym (h .held-in .ensures) ∙ c .before .before .g .given .1))
 
 pub local-to-global-spec : {M : Type 1} → statement M
 local-to-global-spec =
@@ -77,7 +63,5 @@ local-to-global-spec =
     enum-known-g
     enum-told
     returns-2
-    rem-rest
-    mul-t12
-    add-t13
+    number-in-requires
     returns-3)
