@@ -1,0 +1,55 @@
+-- Demand 3 over lent memory: of every list of calls whose answers and bytes are as promised. Assumes nothing.
+use mathlib.Core.Path.{_≡_, refl}
+use mathlib.Core.List.{List, [], _∷_}
+use Rattle.slices.specs.Bytes.{Bytes}
+use Rattle.layout.specs.declared.Sizes.{Sizes}
+use Rattle.model.specs.Answers.{OpenAnswer}
+use Rattle.model.specs.State.{State, opened}
+use Rattle.model.specs.Calls.{Event, add, find, read, count, nothing, Demand3}
+use Rattle.model.specs.Runs.{Step, Runs}
+use Rattle.model.specs.Order.{ordered, freshNames}
+use Rattle.model.proofs.Lists.{beforeOf, lists-from, demand-3 as opened-demand, stands-for as opened-stands-for}
+use Rattle.memory.specs.Stands.{Stands}
+use Rattle.memory.specs.Promises.{OpenPost}
+use Rattle.memory.specs.Lists.{Memory, Called, Calls}
+
+-- ---- the promises are all that the theorem needs of a call
+
+abbrev Holds : Sizes → State → Memory → Type 0
+Holds s st m = Stands s st (m .pages) (m .lists)
+
+step : (m z : Memory) (e : Event) → Called m e z → Step Memory Holds m e z
+step m z (add a r) c = c .whole
+step m z (find a r) c = (c .0 .whole, c .1)
+step m z (read n x r y) c = (c .0 .whole, c .1)
+step m z (count k r) c = (c .0 .whole, c .1)
+
+runs : (m z : Memory) (es : List Event) → Calls m es z → Runs Memory Holds m es z
+runs m z [] c = c
+runs m z (e ∷ es) c = (c .0, runs m (c .0) es (c .1), step (c .0) z e (c .2))
+
+-- ---- from any memory that stands for a state
+
+-- The state's names count as given before the list.
+pub from-any : (s : Sizes) (st : State) (m z : Memory) (es : List Event) → Stands s st (m .pages) (m .lists) → Calls m es z → Demand3 (beforeOf s st) es
+from-any s st m z es S c = lists-from Memory Holds s m z es (runs m z es c) st (S .good) S
+
+-- ---- from open
+
+module _ (s : Sizes) (pages lists pages₁ lists₁ : Bytes) (O : OpenPost s pages lists OpenAnswer.done pages₁ lists₁)
+    (es : List Event) (z : Memory) (c : Calls (record { pages = pages₁; lists = lists₁ }) es z) where
+  abbrev begin : Memory
+  begin = record { pages = pages₁; lists = lists₁ }
+
+  fresh : Stands s opened pages₁ lists₁
+  fresh = O .whole refl
+
+  -- A call after the list makes a longer list, so it is covered.
+  pub demand-3 : Demand3 (nothing s) es
+  demand-3 = opened-demand Memory Holds s begin z es (runs begin z es c) (fresh .good .sizes) fresh
+
+  -- The memory after the list stands for all fresh names in the order of their adds, across the kinds.
+  pub stands-for : (st : State) × Stands s st (z .pages) (z .lists) × (ordered st ≡ freshNames [] es)
+  stands-for =
+      let k = opened-stands-for Memory Holds s begin z es (runs begin z es c) (fresh .good .sizes) fresh in
+      (k .0, k .1, k .3)

@@ -1,0 +1,100 @@
+-- What each entry promises of its answer and of all lent bytes afterwards, whatever memory is lent. Assumes nothing.
+use Prim.Native.Nat.{ℕ, _+_, _<_, _≤_}
+use mathlib.Core.Path.{_≡_}
+use mathlib.Core.Bool.{true}
+use mathlib.Core.Logic.{_⊎_}
+use mathlib.Core.Option.{some}
+use lib.ListN.{length, drop}
+use Rattle.slices.specs.Bytes.{Bytes}
+use Rattle.slices.specs.Ranges.{within}
+use Rattle.refusals.specs.declared.Refusal.{Refusal}
+use Rattle.refusals.specs.declared.Refusal.the-variants.{Unopened, BadKind, ShortBuffer}
+use Rattle.refusals.specs.Numbers.{numberOf}
+use Rattle.layout.specs.declared.Sizes.{Sizes}
+use Rattle.layout.specs.Sizes.{kinds, pageBytes, listBytes}
+use Rattle.layout.specs.Header.{sizesIn, AlwaysUnopened}
+use Rattle.model.specs.Names.{Name}
+use Rattle.model.specs.Answers.{OpenAnswer, AddAnswer, FindAnswer, ReadAnswer, CountAnswer}
+use Rattle.model.specs.State.{State, opened}
+use Rattle.model.specs.Steps.{openAnswer, checks, addAnswer, afterAdd, findAnswer, readAnswer, readBuffer, countAnswer}
+use Rattle.memory.specs.Stands.{Stands}
+
+-- The slices keep their lengths, and the bytes past what the sizes need stay as found.
+pub record SameBeyond (s : Sizes) (pages lists pages′ lists′ : Bytes) : Type 0 where
+  pub pages-length : length pages′ ≡ length pages
+  pub lists-length : length lists′ ≡ length lists
+  pub pages-beyond : drop (pageBytes s) pages′ ≡ drop (pageBytes s) pages
+  pub lists-beyond : drop (listBytes s) lists′ ≡ drop (listBytes s) lists
+
+-- A refusal whose number is from lo to hi.
+abbrev pub Between : ℕ → ℕ → Refusal → Type 0
+Between lo hi why = within lo hi (numberOf why) ≡ true
+
+-- ---- open
+
+pub record OpenPost (s : Sizes) (pages lists : Bytes) (r : OpenAnswer) (pages′ lists′ : Bytes) : Type 0 where
+  pub answer : r ≡ openAnswer s (length pages) (length lists)
+  pub pages-kept : pages′ ≡ pages
+  pub kept : (why : Refusal) → r ≡ OpenAnswer.refused why → lists′ ≡ lists
+  pub beyond : SameBeyond s pages lists pages′ lists′
+  -- Done: a whole dictionary with no names, of exactly these sizes.
+  pub whole : r ≡ OpenAnswer.done → Stands s opened pages′ lists′
+
+-- ---- add
+
+abbrev pub AddBounded : AddAnswer → Type 0
+AddBounded (AddAnswer.refused why) = Between 3 10 why
+AddBounded (AddAnswer.fresh n) = Unit {0}
+AddBounded (AddAnswer.known n) = Unit {0}
+
+pub record AddPost (pages lists : Bytes) (a : Name) (r : AddAnswer) (pages′ lists′ : Bytes) : Type 0 where
+  pub unopened : AlwaysUnopened pages lists → r ≡ AddAnswer.refused Unopened
+  -- On any memory an illegal name gets its own refusal, or 3.
+  pub illegal : (why : Refusal) → checks (sizesIn lists) a ≡ some why → (r ≡ AddAnswer.refused Unopened) ⊎ (r ≡ AddAnswer.refused why)
+  pub bounded : AddBounded r
+  -- Only a fresh name is written.
+  pub kept : ((n : ℕ) → ¬ (r ≡ AddAnswer.fresh n)) → (pages′ ≡ pages) × (lists′ ≡ lists)
+  pub beyond : SameBeyond (sizesIn lists) pages lists pages′ lists′
+  pub whole : (s : Sizes) (st : State) → Stands s st pages lists → (r ≡ addAnswer s st a) × Stands s (afterAdd s st a) pages′ lists′
+
+-- ---- find
+
+abbrev pub FindBounded : FindAnswer → Type 0
+FindBounded (FindAnswer.refused why) = Between 3 7 why
+FindBounded (FindAnswer.known n) = Unit {0}
+FindBounded FindAnswer.absent = Unit {0}
+
+pub record FindPost (pages lists : Bytes) (a : Name) (r : FindAnswer) : Type 0 where
+  pub unopened : AlwaysUnopened pages lists → r ≡ FindAnswer.refused Unopened
+  pub illegal : (why : Refusal) → checks (sizesIn lists) a ≡ some why → (r ≡ FindAnswer.refused Unopened) ⊎ (r ≡ FindAnswer.refused why)
+  pub bounded : FindBounded r
+  pub whole : (s : Sizes) (st : State) → Stands s st pages lists → r ≡ findAnswer s st a
+
+-- ---- read
+
+-- A name's kind is one of document 01's, its parts fit the buffer x, and y has x's bytes past them.
+abbrev pub ReadBounded : Bytes → Bytes → ReadAnswer → Type 0
+ReadBounded x y (ReadAnswer.refused why) = (why ≡ Unopened) ⊎ (why ≡ ShortBuffer)
+ReadBounded x y (ReadAnswer.name k m n) = (k < kinds) × (m + n ≤ length x) × (drop (m + n) y ≡ drop (m + n) x)
+ReadBounded x y ReadAnswer.absent = Unit {0}
+
+-- The buffer was x and is y.
+pub record ReadPost (pages lists : Bytes) (number : ℕ) (x : Bytes) (r : ReadAnswer) (y : Bytes) : Type 0 where
+  pub unopened : AlwaysUnopened pages lists → r ≡ ReadAnswer.refused Unopened
+  pub bounded : ReadBounded x y r
+  pub buffer-length : length y ≡ length x
+  -- Only a name is written.
+  pub kept : ((k m n : ℕ) → ¬ (r ≡ ReadAnswer.name k m n)) → y ≡ x
+  pub whole : (s : Sizes) (st : State) → Stands s st pages lists → (r ≡ readAnswer s st number x) × (y ≡ readBuffer s st number x)
+
+-- ---- count
+
+abbrev pub CountBounded : CountAnswer → Type 0
+CountBounded (CountAnswer.refused why) = (why ≡ Unopened) ⊎ (why ≡ BadKind)
+CountBounded (CountAnswer.count n) = Unit {0}
+
+pub record CountPost (pages lists : Bytes) (kind : ℕ) (r : CountAnswer) : Type 0 where
+  pub unopened : AlwaysUnopened pages lists → r ≡ CountAnswer.refused Unopened
+  pub illegal : kinds ≤ kind → (r ≡ CountAnswer.refused Unopened) ⊎ (r ≡ CountAnswer.refused BadKind)
+  pub bounded : CountBounded r
+  pub whole : (s : Sizes) (st : State) → Stands s st pages lists → r ≡ countAnswer st kind

@@ -1,0 +1,280 @@
+-- Demand 3: of every list of calls, from any good state, and from a freshly opened dictionary. Assumes nothing.
+use Prim.Native.Nat.{ℕ, _≤_, _<_}
+use mathlib.Core.Path.{_≡_, refl, ap, _∙_}
+use mathlib.Core.Logic.{_↔_, inl, inr, ⊎-map}
+use mathlib.Core.List.{List, [], _∷_, _++_}
+use mathlib.Core.Option.{Option, none, some}
+use native.Mathlib.Omega.{arith}
+use borrow.Author.Tests.{lt-leb, le-leb}
+use lib.ListN.{length, drop}
+use Rattle.slices.specs.Bytes.{Bytes}
+use Rattle.refusals.specs.declared.Refusal.{Refusal}
+use Rattle.layout.specs.declared.Sizes.{Sizes}
+use Rattle.layout.specs.Sizes.{InRange, kinds}
+use Rattle.meta_dv_dict.specs.Blocks.{pick, blocksAfter, numberPicked}
+use Rattle.meta_dv_dict.proofs.Rule.{rule-steps}
+use Rattle.model.specs.Names.{Name, size}
+use Rattle.model.specs.Answers.{AddAnswer, FindAnswer, ReadAnswer, CountAnswer}
+use Rattle.model.specs.State.{State, opened, numberOf, nameOf}
+use Rattle.model.specs.Steps.{checks, addAnswer, afterAdd, findBy, findChecked, findAnswer, readAnswer, readBuffer, countAnswer}
+use Rattle.model.specs.Good.{Good}
+use Rattle.model.specs.Calls.{Event, add, find, read, count, At, Gave, Accepted, Before, nothing, Given, Issued, freshKinds, howMany, Demand3}
+use Rattle.model.specs.Runs.{Step, Runs}
+use Rattle.model.specs.Order.{ordered, freshNames}
+use Rattle.model.proofs.Numbers.{read-back, number-back}
+use Rattle.model.proofs.Good.{opened-good, add-good}
+use Rattle.model.proofs.Order.{order-by}
+use Rattle.model.proofs.Adds.{keeps, came, gave, was-known, was-new, blocks-by, count-by}
+
+-- ---- a list whose answers are those of the states
+
+abbrev Right : Sizes → State → Event → Type 0
+Right s st (add a r) = r ≡ addAnswer s st a
+Right s st (find a r) = r ≡ findAnswer s st a
+Right s st (read n x r y) = (r ≡ readAnswer s st n x) × (y ≡ readBuffer s st n x)
+Right s st (count k r) = r ≡ countAnswer st k
+
+abbrev after : Sizes → State → Event → State
+after s st (add a r) = afterAdd s st a
+after s st (find a r) = st
+after s st (read n x r y) = st
+after s st (count k r) = st
+
+-- The state after a list of events.
+abbrev stateOf : Sizes → State → List Event → State
+stateOf s st [] = st
+stateOf s st (e ∷ es) = after s (stateOf s st es) e
+
+abbrev Model : Sizes → State → List Event → Type 0
+Model s st [] = Unit {0}
+Model s st (e ∷ es) = Right s (stateOf s st es) e × Model s st es
+
+module _ (Mem : Type 0) (Stands : Sizes → State → Mem → Type 0) (s : Sizes) (st : State) (m : Mem) (begin : Stands s st m) where
+  one : (e : Event) (x : State) (y z : Mem) → Stands s x y → Step Mem Stands y e z → Right s x e × Stands s (after s x e) z
+  one (add a r) x y z h p = p s x h
+  one (find a r) x y z h p = (p .0 s x h, rw (p .1) h)
+  one (read n b r o) x y z h p = (p .0 s x h, rw (p .1) h)
+  one (count k r) x y z h p = (p .0 s x h, rw (p .1) h)
+
+  model : (es : List Event) (z : Mem) → Runs Mem Stands m es z → Model s st es × Stands s (stateOf s st es) z
+  model [] z r = (tt, rw r begin)
+  model (e ∷ es) z r =
+      let h : Model s st es × Stands s (stateOf s st es) (r .0) = model es (r .0) (r .1) in
+      let k : Right s (stateOf s st es) e × Stands s (after s (stateOf s st es) e) z = one e (stateOf s st es) (r .0) z (h .1) (r .2) in
+      ((k .0, h .0), k .1)
+
+-- ---- the events and the state they lead to
+
+-- The number that steps by the rule from the state give a name of the kind k, after names of these kinds, newest first.
+abbrev pub stepsRule : Sizes → State → List ℕ → ℕ → Option ℕ
+stepsRule s st ks k = numberPicked (s .w) (blocksAfter s (st .blocks) ks) k (pick s (blocksAfter s (st .blocks) ks) k)
+
+-- What was before the list is what the state has.
+pub record Starts (s : Sizes) (st : State) (o : Before) : Type 0 where
+  pub given : (a : Name) (n : ℕ) → o .given a n → numberOf s st a ≡ some n
+  pub had : (a : Name) (n : ℕ) → numberOf s st a ≡ some n → o .given a n
+  pub count : (k : ℕ) → length (st .part k .names) ≡ o .count k
+  pub rule : (ks : List ℕ) (k : ℕ) → o .rule ks k ≡ stepsRule s st ks k
+
+issued-given : (o : Before) (a : Name) (n : ℕ) (es : List Event) → Issued o a n es → Given o a n es
+issued-given o a n [] i = i
+issued-given o a n (add b r ∷ es) (inl i) = inl (i .0, inl (i .1))
+issued-given o a n (add b r ∷ es) (inr i) = inr (issued-given o a n es i)
+issued-given o a n (find b r ∷ es) i = issued-given o a n es i
+issued-given o a n (read j x r y ∷ es) i = issued-given o a n es i
+issued-given o a n (count k r ∷ es) i = issued-given o a n es i
+
+module _ (s : Sizes) (st : State) (G : Good s st) (o : Before) (S : Starts s st o) where
+  abbrev now : List Event → State
+  now es = stateOf s st es
+
+  good : (es : List Event) → Good s (now es)
+  good [] = G
+  good (add a r ∷ es) = add-good s (now es) a (good es)
+  good (find a r ∷ es) = good es
+  good (read n x r y ∷ es) = good es
+  good (count k r ∷ es) = good es
+
+  -- What an add was given is the name's number,
+  given : (a : Name) (n : ℕ) (es : List Event) → Model s st es → Given o a n es → numberOf s (now es) a ≡ some n
+  given a n [] h i = S .given a n i
+  given a n (add b r ∷ es) h (inl i) = rw (i .0) (gave s (now es) (good es) b r (h .0) n (i .1))
+  given a n (add b r ∷ es) h (inr i) = keeps s (now es) (good es) b a n (given a n es (h .1) i)
+  given a n (find b r ∷ es) h i = given a n es (h .1) i
+  given a n (read j x r y ∷ es) h i = given a n es (h .1) i
+  given a n (count k r ∷ es) h i = given a n es (h .1) i
+
+  -- and a name's number was issued to it.
+  issued : (a : Name) (n : ℕ) (es : List Event) → Model s st es → numberOf s (now es) a ≡ some n → Issued o a n es
+  issued a n [] h e = S .had a n e
+  issued a n (add b r ∷ es) h e = ⊎-map (λ u. u) (λ u. issued a n es (h .1) u) (came s (now es) (good es) b r (h .0) a n e)
+  issued a n (find b r ∷ es) h e = issued a n es (h .1) e
+  issued a n (read j x r y ∷ es) h e = issued a n es (h .1) e
+  issued a n (count k r ∷ es) h e = issued a n es (h .1) e
+
+  blocks : (es : List Event) → Model s st es → now es .blocks ≡ blocksAfter s (st .blocks) (freshKinds es)
+  blocks [] h = refl
+  blocks (add b r ∷ es) h = blocks-by s (now es) (good es) b r (h .0) (st .blocks) (freshKinds es) (blocks es (h .1))
+  blocks (find b r ∷ es) h = blocks es (h .1)
+  blocks (read j x r y ∷ es) h = blocks es (h .1)
+  blocks (count k r ∷ es) h = blocks es (h .1)
+
+  counted : (k : ℕ) (es : List Event) → Model s st es → length (now es .part k .names) ≡ howMany (o .count k) k (freshKinds es)
+  counted k [] h = S .count k
+  counted k (add b r ∷ es) h = count-by s (now es) (good es) b r (h .0) k (o .count k) (freshKinds es) (counted k es (h .1))
+  counted k (find b r ∷ es) h = counted k es (h .1)
+  counted k (read j x r y ∷ es) h = counted k es (h .1)
+  counted k (count j r ∷ es) h = counted k es (h .1)
+
+  in-front : (es : List Event) → Model s st es → ordered (now es) ≡ freshNames (ordered st) es
+  in-front [] h = refl
+  in-front (add b r ∷ es) h = order-by s (now es) (good es) b r (h .0) (freshNames (ordered st) es) (in-front es (h .1))
+  in-front (find b r ∷ es) h = in-front es (h .1)
+  in-front (read j x r y ∷ es) h = in-front es (h .1)
+  in-front (count j r ∷ es) h = in-front es (h .1)
+
+  -- At each place the answer is that of the state before it.
+  at : (e : Event) (xs es : List Event) → Model s st es → At e xs es → Right s (now xs) e × Model s st xs
+  at e xs [] h c = absurd c
+  at e xs (x ∷ es) h (inl c) = rw (c .0, c .1) h
+  at e xs (x ∷ es) h (inr c) = at e xs es (h .1) c
+
+  -- ---- the sentences
+
+  module _ (es : List Event) (h : Model s st es) where
+    same : (xs : List Event) (a b : Name) (r : AddAnswer) (m n : ℕ) → At (add a r) xs es → Gave r m → Given o b n xs → (m ≡ n) ↔ (a ≡ b)
+    same xs a b r m n c g f =
+        let t : (r ≡ addAnswer s (now xs) a) × Model s st xs = at (add a r) xs es h c in
+        let ys : List Event = add a r ∷ xs in
+        let p : numberOf s (now ys) a ≡ some m = given a m ys t (inl (refl, g)) in
+        let q : numberOf s (now ys) b ≡ some n = given b n ys t (inr f) in
+        let u : nameOf s (now ys) m ≡ some a = read-back s (now ys) (good ys) a m p in
+        let v : nameOf s (now ys) n ≡ some b = read-back s (now ys) (good ys) b n q in
+        (λ e. cc, λ e. cc)
+
+    first : (xs : List Event) (a : Name) (r : AddAnswer) (n : ℕ) → At (add a r) xs es → Gave r n → ((m : ℕ) → ¬ Given o a m xs) → r ≡ AddAnswer.fresh n
+    first xs a r n c (inl e) g = e
+    first xs a r n c (inr e) g =
+        let t : (r ≡ addAnswer s (now xs) a) × Model s st xs = at (add a r) xs es h c in
+        absurd (g n (issued-given o a n xs (issued a n xs (t .1) (was-known s (now xs) (good xs) a r (t .0) n e))))
+
+    later : (xs : List Event) (a : Name) (r : AddAnswer) (n m : ℕ) → At (add a r) xs es → Gave r n → Given o a m xs → r ≡ AddAnswer.known m
+    later xs a r n m c (inl e) g =
+        let t : (r ≡ addAnswer s (now xs) a) × Model s st xs = at (add a r) xs es h c in
+        let p : numberOf s (now xs) a ≡ some m = given a m xs (t .1) g in
+        let q : numberOf s (now xs) a ≡ none = was-new s (now xs) (good xs) a r (t .0) n e .0 in
+        cc
+    later xs a r n m c (inr e) g =
+        let t : (r ≡ addAnswer s (now xs) a) × Model s st xs = at (add a r) xs es h c in
+        let p : numberOf s (now xs) a ≡ some m = given a m xs (t .1) g in
+        let q : numberOf s (now xs) a ≡ some n = was-known s (now xs) (good xs) a r (t .0) n e in
+        let z : n ≡ m = cc in
+        e ∙ ap AddAnswer.known z
+
+    -- A find that is not refused looks the name up.
+    looks : (xs : List Event) (a : Name) (r : FindAnswer) → r ≡ findAnswer s (now xs) a → Accepted r
+        → r ≡ findBy (numberOf s (now xs) a)
+    looks xs a r e ok = go (checks s a) e
+      where
+        go : (c : Option Refusal) → r ≡ findChecked s (now xs) a c → r ≡ findBy (numberOf s (now xs) a)
+        go (some k) e = absurd (ok k e)
+        go none e = e
+
+    find-after : (xs : List Event) (a : Name) (r : FindAnswer) (n : ℕ) → At (find a r) xs es → Accepted r
+        → Given o a n xs → r ≡ FindAnswer.known n
+    find-after xs a r n c ok g =
+        let t : (r ≡ findAnswer s (now xs) a) × Model s st xs = at (find a r) xs es h c in
+        looks xs a r (t .0) ok ∙ rw (given a n xs (t .1) g)
+
+    find-before : (xs : List Event) (a : Name) (r : FindAnswer) → At (find a r) xs es → Accepted r
+        → ((n : ℕ) → ¬ Given o a n xs) → r ≡ FindAnswer.absent
+    find-before xs a r c ok g = looks xs a r (at (find a r) xs es h c .0) ok ∙ go (numberOf s (now xs) a) refl
+      where
+        go : (i : Option ℕ) → numberOf s (now xs) a ≡ i → findBy i ≡ FindAnswer.absent
+        go none e = refl
+        go (some n) e = absurd (g n (issued-given o a n xs (issued a n xs (at (find a r) xs es h c .1) e)))
+
+    in-order : (xs : List Event) (a : Name) (n : ℕ) → At (add a (AddAnswer.fresh n)) xs es → o .rule (freshKinds xs) (a .kind) ≡ some n
+    in-order xs a n c =
+        let t : (AddAnswer.fresh n ≡ addAnswer s (now xs) a) × Model s st xs = at (add a (AddAnswer.fresh n)) xs es h c in
+        S .rule (freshKinds xs) (a .kind) ∙ rw (← blocks xs (t .1)) (was-new s (now xs) (good xs) a (AddAnswer.fresh n) (t .0) n refl .1)
+
+    counts : (xs : List Event) (k : ℕ) (r : CountAnswer) → At (count k r) xs es → k < kinds → r ≡ CountAnswer.count (howMany (o .count k) k (freshKinds xs))
+    counts xs k r c l =
+        let t : (r ≡ countAnswer (now xs) k) × Model s st xs = at (count k r) xs es h c in
+        t .0 ∙ rw (lt-leb kinds k l) (ap CountAnswer.count (counted k xs (t .1)))
+
+    read-name : (xs : List Event) (n : ℕ) (x y : Bytes) (r : ReadAnswer) (a : Name) → At (read n x r y) xs es
+        → Issued o a n xs → size a ≤ length x
+        → (r ≡ ReadAnswer.name (a .kind) (length (a .first)) (length (a .second))) × (y ≡ a .first ++ a .second ++ drop (size a) x)
+    read-name xs n x y r a c i l =
+        let t : ((r ≡ readAnswer s (now xs) n x) × (y ≡ readBuffer s (now xs) n x)) × Model s st xs = at (read n x r y) xs es h c in
+        let q : nameOf s (now xs) n ≡ some a = read-back s (now xs) (good xs) a n (given a n xs (t .1) (issued-given o a n xs i)) in
+        (t .0 .0 ∙ rw (q, le-leb (size a) (length x) l), t .0 .1 ∙ rw (q, le-leb (size a) (length x) l))
+
+    read-none : (xs : List Event) (n : ℕ) (x y : Bytes) (r : ReadAnswer) → At (read n x r y) xs es
+        → ((a : Name) → ¬ Issued o a n xs) → (r ≡ ReadAnswer.absent) × (y ≡ x)
+    read-none xs n x y r c g =
+        let t : ((r ≡ readAnswer s (now xs) n x) × (y ≡ readBuffer s (now xs) n x)) × Model s st xs = at (read n x r y) xs es h c in
+        let q : nameOf s (now xs) n ≡ none = go (t .1) (nameOf s (now xs) n) refl in
+        (t .0 .0 ∙ rw q, t .0 .1 ∙ rw q)
+      where
+        go : Model s st xs → (i : Option Name) → nameOf s (now xs) n ≡ i → i ≡ none
+        go k none e = refl
+        go k (some a) e = absurd (g a (issued a n xs k (number-back s (now xs) (good xs) a n e)))
+
+    holds : Demand3 o es
+    holds = record {
+      same = same;
+      first = first;
+      later = later;
+      find-after = find-after;
+      find-before = find-before;
+      in-order = in-order;
+      counts = counts;
+      read-name = read-name;
+      read-none = read-none;
+    }
+
+-- ---- demand 3
+
+-- What a state counts as before a list that starts from it.
+abbrev pub beforeOf : Sizes → State → Before
+beforeOf s st = record { given = λ a n. numberOf s st a ≡ some n; count = λ k. length (st .part k .names); rule = stepsRule s st }
+
+opened-starts : (s : Sizes) → Starts s opened (nothing s)
+unfolding numberOf
+opened-starts s = record {
+  given = λ a n e. absurd e;
+  had = λ a n e. let z : _≡_ {A = ℕ} 0 1 = cc in omega arith;
+  count = λ k. refl;
+  rule = λ ks k. rule-steps s ks k;
+}
+
+opened-empty : ordered opened ≡ []
+unfolding ordered
+opened-empty = refl
+
+state-starts : (s : Sizes) (st : State) → Starts s st (beforeOf s st)
+state-starts s st = record { given = λ a n e. e; had = λ a n e. e; count = λ k. refl; rule = λ ks k. refl }
+
+module _ (Mem : Type 0) (Stands : Sizes → State → Mem → Type 0) (s : Sizes) (m z : Mem) (es : List Event) (runs : Runs Mem Stands m es z) where
+  -- From any good state, its names counted as given before the list.
+  pub lists-from : (st : State) → Good s st → Stands s st m → Demand3 (beforeOf s st) es
+  lists-from st G h = holds s st G (beforeOf s st) (state-starts s st) es (model Mem Stands s st m h es z runs .0)
+
+  -- From a freshly opened dictionary. A call after the list makes a longer list, so it is covered.
+  module _ (R : InRange s) (h : Stands s opened m) where
+    pub demand-3 : Demand3 (nothing s) es
+    demand-3 = holds s opened (opened-good s R) (nothing s) (opened-starts s) es (model Mem Stands s opened m h es z runs .0)
+
+    -- The memory then stands for all fresh names in the order of their adds, across the kinds.
+    pub stands-for : (st : State) × Stands s st z × Good s st × (ordered st ≡ freshNames [] es)
+    stands-for =
+        let G : Good s opened = opened-good s R in
+        let k = model Mem Stands s opened m h es z runs in (
+          stateOf s opened es,
+          k .1,
+          good s opened G (nothing s) (opened-starts s) es,
+          in-front s opened G (nothing s) (opened-starts s) es (k .0) ∙ ap (λ (ns : List Name). freshNames ns es) opened-empty,
+        )

@@ -1,0 +1,28 @@
+-- Names: a kind and two parts. Assumes nothing.
+use Prim.Native.Nat.{ℕ, _+_}
+use mathlib.Core.Bool.{Bool, _&&_}
+use lib.Dec.{eqb}
+use lib.ListN.{length}
+use Rattle.slices.specs.Bytes.{Bytes, sameBytes}
+use Rattle.limits.specs.Limits.{nameLimit}
+use Rattle.layout.specs.declared.Sizes.{Sizes}
+
+pub record Name : Type 0 where
+  pub kind : ℕ
+  pub first : Bytes
+  pub second : Bytes
+
+-- Where a call's arguments become a name.
+abbrev pub entered : ℕ → Bytes → Bytes → Name
+entered k a b = record { kind = k; first = a; second = b }
+
+-- Both parts together, and the most they may have.
+abbrev pub size : Name → ℕ
+size a = length (a .first) + length (a .second)
+
+abbrev pub limit : Sizes → ℕ
+limit s = nameLimit
+
+-- Names are equal when kind and both parts agree byte for byte.
+abbrev pub sameName : Name → Name → Bool
+sameName a b = eqb (a .kind) (b .kind) && (sameBytes (a .first) (b .first) && sameBytes (a .second) (b .second))

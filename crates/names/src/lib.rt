@@ -1,0 +1,117 @@
+// A name's arguments: the kinds and their dictionaries, the check of refusals 4 to 7, and how a tag stands in its key.
+use bytes_dictionary::EntryId;
+use layout::KINDS;
+use layout::Sizes;
+use meta_dv_dict::LocalId;
+use parts::Mode;
+use refusals::Refusal;
+use string_dv_dict::Checked;
+ghost use mathlib.Core.Path.{_≡_};
+ghost use mathlib.Core.Bool.{true};
+ghost use mathlib.Core.List.{[]};
+ghost use Prim.Native.Nat.{_<_};
+ghost use Rattle.layout.specs.Sizes.{kinds, dictionaries};
+ghost use Rattle.string_dv_dict.specs.Answers.{checkedBy};
+ghost use Rattle.model.specs.Names.{entered};
+ghost use Rattle.model.specs.Kinds.{row};
+ghost use Rattle.model.specs.Steps.{badKind, checks};
+ghost use Rattle.names.specs.Tags.{frontOf, modeOf};
+
+pub const IRI: usize = 0;
+
+pub const PLAIN: usize = 1;
+
+pub const TAGGED: usize = 2;
+
+pub const TYPED: usize = 3;
+
+// The dictionary of a kind's names.
+pub fn main_dictionary(kind: usize) -> usize
+    requires { ⌜ kind < kinds ⌝ }
+    ensures { λ r. ⌜ (r ≡ row kind .mainAt) × (r < dictionaries) ⌝ }
+{
+    if kind == IRI {
+        return 1;
+    }
+    if kind == PLAIN {
+        return 2;
+    }
+    if kind == TAGGED {
+        return 3;
+    }
+    5
+}
+
+// The dictionary of the heads of a kind that has them.
+pub fn head_dictionary(kind: usize) -> usize
+    requires { ⌜ (kind < kinds) × (row kind .paired ≡ true) ⌝ }
+    ensures { λ r. ⌜ (r ≡ row kind .headsAt) × (r < dictionaries) ⌝ }
+{
+    if kind == IRI { 0 } else { 4 }
+}
+
+// A name's local number is the number of its entry in the kind's main dictionary.
+pub fn entry_to_local(id: EntryId) -> LocalId
+    ensures { λ r. ⌜ r .0 ≡ id .0 ⌝ }
+{
+    LocalId(id.0)
+}
+
+pub fn local_to_entry(local: LocalId) -> EntryId
+    ensures { λ r. ⌜ r .0 ≡ local .0 ⌝ }
+{
+    EntryId(local.0)
+}
+
+fn is_bad_kind(kind: usize, second: &[u8]) -> bool
+    ensures { λ r. ⌜ r ≡ badKind (entered kind [] (now (second .entry))) ⌝ }
+{
+    if KINDS <= kind {
+        return true;
+    }
+    if TAGGED <= kind {
+        return false;
+    }
+    second.len() != 0
+}
+
+// Refusals 4 to 7 of a name. The limit of a name's length belongs to the sizes.
+pub fn check_name(s: Sizes, kind: usize, first: &[u8], second: &[u8]) -> Checked
+    ensures { λ r. ⌜ r ≡ checkedBy (checks s (entered kind (now (first .entry)) (now (second .entry)))) ⌝ }
+{
+    if is_bad_kind(kind, second) {
+        return Checked::Illegal(Refusal::BadKind);
+    }
+    if limits::name_limit() < first.len() + second.len() {
+        return Checked::Illegal(Refusal::TooLong);
+    }
+    if !utf8::is_text(first) {
+        return Checked::Illegal(Refusal::NotText);
+    }
+    if !utf8::is_text(second) {
+        return Checked::Illegal(Refusal::NotText);
+    }
+    if kind == TAGGED && second.len() == 0 {
+        return Checked::Illegal(Refusal::NoTag);
+    }
+    Checked::Legal
+}
+
+// What stands in front of a stored tag: its length, or 0 for a long one.
+pub fn tag_front(tag: &[u8]) -> u8
+    ensures { λ r. ⌜ r ≡ frontOf (now (tag .entry)) ⌝ }
+{
+    let n = tag.len();
+    if n <= 127 { n as u8 } else { 0 }
+}
+
+// A long tag is escaped and closed.
+pub fn tag_mode(tag: &[u8]) -> Mode
+    ensures { λ r. ⌜ r ≡ modeOf (now (tag .entry)) ⌝ }
+{
+    if tag.len() <= 127 {
+        Mode::Raw
+    } else {
+        Mode::Closed
+    }
+}

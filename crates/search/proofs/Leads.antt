@@ -1,0 +1,49 @@
+-- The frequent id of a head's number, as the search writes it in front of the rest. Assumes nothing.
+use Prim.Native.Nat.{ℕ, _≤_, _<_}
+use mathlib.Core.Path.{_≡_, refl, sym, ap, _∙_}
+use mathlib.Core.List.{[], _++_, append-nil}
+use mathlib.Core.Option.{none}
+use native.Mathlib.Omega.{arith}
+use lib.ListN.{length, take, drop}
+use lib.Seq.{take-at}
+use Rattle.slices.specs.Bytes.{Bytes}
+use Rattle.parts.specs.declared.Mode.the-variants.{Raw}
+use Rattle.parts.specs.Parts.{bytesOf}
+use Rattle.bytes_index.specs.Search.{keyOf}
+use Rattle.refusals.specs.declared.Refusal.{Refusal}
+use Rattle.refusals.specs.declared.Written.{Written}
+use Rattle.refusals.specs.declared.Written.the-variants.{Length, Refused}
+use Rattle.refusals.specs.Written.{writtenBy}
+use Rattle.ranked_pair_dictionary.specs.FrequentId.{fid, writeRefusal, writeAnswer, writeBuffer}
+use Rattle.ranked_pair_dictionary.proofs.Laws.{further-le, length-fid, write-done}
+
+raw-key : (front rest : Bytes) → keyOf front Raw [] rest ≡ front ++ rest
+unfolding bytesOf
+raw-key front rest = rw append-nil
+
+pub lead-short : (f : ℕ) → length (fid f) ≤ 4
+lead-short f = omega (arith, length-fid f, further-le f)
+
+-- Four bytes are enough for every number that a dictionary gives.
+module _ (f : ℕ) (buffer : Bytes) (small : f < 1073741824) (room : 4 ≤ length buffer) where
+  not-refused : writeRefusal f (length buffer) ≡ none
+  not-refused = write-done f (length buffer) small (omega (arith, further-le f))
+
+  lead-answer : writeAnswer f (length buffer) ≡ Length (length (fid f))
+  unfolding writeAnswer
+  lead-answer = ap (writtenBy (fid f)) not-refused
+
+  lead-bytes : take (length (fid f)) (writeBuffer f buffer) ≡ fid f
+  unfolding writeBuffer
+  lead-bytes = rw not-refused (take-at (fid f) (drop (length (fid f)) buffer) (length (fid f)) refl)
+
+  pub lead-length : (w : Written) (n : ℕ) → w ≡ writeAnswer f (length buffer) → w ≡ Length n → n ≡ length (fid f)
+  lead-length w n p q = let e : Length n ≡ Length (length (fid f)) = sym q ∙ p ∙ lead-answer in cc
+
+  pub never-refused : (w : Written) (why : Refusal) → w ≡ writeAnswer f (length buffer) → w ≡ Refused why → ⊥
+  never-refused w why p q =
+      let e : Refused why ≡ Length (length (fid f)) = sym q ∙ p ∙ lead-answer in
+      let z : _≡_ {A = ℕ} 0 1 = cc in omega arith
+
+  pub lead-key : (lead rest : Bytes) (n : ℕ) → lead ≡ writeBuffer f buffer → n ≡ length (fid f) → keyOf (take n lead) Raw [] rest ≡ fid f ++ rest
+  lead-key lead rest n p q = raw-key (take n lead) rest ∙ rw (p, q, lead-bytes)

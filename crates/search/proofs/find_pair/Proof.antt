@@ -1,0 +1,130 @@
+-- The head's number, written as a frequent id, is the front of the key; without the head there is no such name. Assumes nothing.
+use Prim.Native.Nat.{_<_}
+use mathlib.Core.Path.{_≡_, sym, subst}
+use mathlib.Core.List.{[], _∷_}
+use native.Mathlib.Omega.{arith}
+use borrow.Author.Needs.{needs}
+use lib.ListN.{length}
+use lib.Seq.{length-take-le}
+use Rattle.slices.specs.Bytes.{Bytes}
+use Rattle.bytes_index.specs.declared.Probe.the-variants.{At}
+use Rattle.bytes_index.specs.Search.{Searched}
+use Rattle.ranked_pair_dictionary.specs.FrequentId.{fid}
+use Rattle.model.specs.Kinds.{row}
+use Rattle.search.proofs.Leads.{lead-short, lead-length, never-refused, lead-key}
+use Rattle.search.proofs.Finds.{pair-at, pair-free, pair-bad}
+use Rattle.search.proofs.find_pair.Statement.{statement}
+use Rattle.search.proofs.find_pair.Tie as tie
+
+-- The buffer of its frequent id.
+abbrev zeros : Bytes
+zeros = 0 ∷ 0 ∷ 0 ∷ 0 ∷ []
+
+-- The head's number f.
+at-f : (c : tie.After-f) →
+    let a = c .before .before .before .before .before .before .before .args in
+    Searched (a .s) (row (a .k) .headsAt) (a .pages .now) (a .lists .now) (a .head .now) (At (c .f .given .0 .0))
+at-f c =
+    let a = c .before .before .before .before .before .before .before .args in
+    subst (Searched (a .s) (row (a .k) .headsAt) (a .pages .now) (a .lists .now) (a .head .now)) (c .f .given .1) (c .before .before .find-head .ensures)
+
+small : (c : tie.After-f) → c .f .given .0 .0 < 1073741824
+small c = omega (arith, at-f c .range, c .before .before .before .before .before .before .before .pre .0 .ranged .e .1)
+
+-- The length n of its frequent id.
+length-n : (c : tie.After-written) →
+    c .written .given .0 .0 ≡ length (fid (c .before .before .before .before .before .before .f .given .0 .0))
+length-n c =
+    let w = c .before .before .before in
+    let f = w .before .before .before in
+    lead-length (f .f .given .0 .0) zeros (small f) (omega arith) (w .write-frequent-id .result) (c .written .given .0 .0) (w .write-frequent-id .ensures .0) (c .written .given .1)
+
+find-head-requires : tie.Need-find-head-requires
+find-head-requires c κs = search needs
+
+enum-known-f : tie.Need-enum-known-f
+enum-known-f c = search needs
+
+slice-aggregate-write-frequent-id : tie.Need-slice-aggregate-write-frequent-id
+slice-aggregate-write-frequent-id c = search needs
+
+write-frequent-id-requires : tie.Need-write-frequent-id-requires
+write-frequent-id-requires c κs = search needs
+
+enum-known-written : tie.Need-enum-known-written
+enum-known-written c = search needs
+
+enum-told : tie.Need-enum-told
+enum-told c = search needs
+
+returns : tie.Need-returns
+returns c =
+    let w = c .before .before .before in
+    let f = w .before .before .before in
+    absurd (never-refused (f .f .given .0 .0) zeros (small f) (omega arith) (w .write-frequent-id .result) _ (w .write-frequent-id .ensures .0) (c .enum-told .given .1))
+
+array-share-prefix-lead : tie.Need-array-share-prefix-lead
+array-share-prefix-lead c =
+    let w = c .before .before .before .before in
+    omega (arith, length-n (c .before), lead-short (w .before .before .before .f .given .0 .0), w .write-frequent-id .kept)
+
+slice-aggregate-find-key : tie.Need-slice-aggregate-find-key
+slice-aggregate-find-key c = sym (length-take-le _ _ (array-share-prefix-lead (c .before)))
+
+slice-aggregate-find-key-2 : tie.Need-slice-aggregate-find-key-2
+slice-aggregate-find-key-2 c = search needs
+
+find-key-requires : tie.Need-find-key-requires
+find-key-requires c κs = search needs
+
+enum-told-2 : tie.Need-enum-told-2
+enum-told-2 c = search needs
+
+enum-told-3 : tie.Need-enum-told-3
+enum-told-3 c = search needs
+
+returns-2 : tie.Need-returns-2
+returns-2 c =
+    let t = c .before .before .before .before in
+    let w = t .before .before .before in
+    let f = w .before .before .before in
+    let z = f .before .before .before .before .before .before .before in
+    let a = z .args in
+    let g = f .f .given .0 .0 in
+    pair-at (a .s) (a .pages .now) (a .lists .now) (a .k) (z .pre .0 .kinded) (z .pre .1) (a .head .now) (a .rest .now) g (c .find-key .result) (at-f f)
+    (rw (lead-key g zeros (small f) (omega arith) _ (a .rest .now) _ (w .write-frequent-id .ensures .1) (length-n t)) at (c .find-key .ensures))
+
+returns-3 : tie.Need-returns-3
+returns-3 c =
+    let z = c .before .before .before .before .before .before .before in
+    let a = z .args in
+    pair-free (a .s) (a .pages .now) (a .lists .now) (a .k) (z .pre .0 .kinded) (z .pre .1) (a .head .now) (a .rest .now) _
+    (subst (Searched (a .s) (row (a .k) .headsAt) (a .pages .now) (a .lists .now) (a .head .now)) (c .enum-told2 .given .1) (c .before .before .find-head .ensures))
+
+returns-4 : tie.Need-returns-4
+returns-4 c =
+    let z = c .before .before .before .before .before .before .before in
+    let a = z .args in
+    pair-bad (a .s) (a .pages .now) (a .lists .now) (a .k) (z .pre .0 .kinded) (z .pre .1) (a .head .now) (a .rest .now)
+    (subst (Searched (a .s) (row (a .k) .headsAt) (a .pages .now) (a .lists .now) (a .head .now)) (c .enum-told3 .given .1) (c .before .before .find-head .ensures))
+
+pub find-pair-spec : {M : Type 1} → statement M
+find-pair-spec =
+    tie.close
+    (tie.spec
+    find-head-requires
+    enum-known-f
+    slice-aggregate-write-frequent-id
+    write-frequent-id-requires
+    enum-known-written
+    enum-told
+    returns
+    array-share-prefix-lead
+    slice-aggregate-find-key
+    slice-aggregate-find-key-2
+    find-key-requires
+    enum-told-2
+    enum-told-3
+    returns-2
+    returns-3
+    returns-4)
