@@ -7,11 +7,15 @@ use Rattle.ranked_pair_iri_dv_dict.specs.Split.{headOf}
 use Rattle.ranked_pair_dictionary.specs.FrequentId.{furtherBytes, frequentId, fid, writeRefusal, writeAnswer, writeBuffer}
 use Rattle.string_dv_dict.specs.Packed.{packed, pairRefusal}
 use Rattle.string_dv_dict.specs.Answers.{packAnswer, packBuffer}
+use Rattle.bytes_buffer.specs.Pages.{fits, grown, grownAt, allPages}
+use Rattle.meta_dv_dict.specs.Blocks.{pick}
+use Rattle.model.specs.State.{numberOf}
+use Rattle.model.specs.Steps.{checks, room, decide, extended}
 use Rattle.meta_dv_dict.proofs.Checks.{m9-m10-m11}
 use Rattle.examples.specs.Examples.{Examples}
 
 pub examples : Examples
-unfolding nameLimit firstOf isText escape escaped headOf furtherBytes frequentId fid writeRefusal writeAnswer writeBuffer packed pairRefusal packAnswer packBuffer
+unfolding nameLimit firstOf isText escape escaped headOf furtherBytes frequentId fid writeRefusal writeAnswer writeBuffer packed pairRefusal packAnswer packBuffer fits grown grownAt allPages pick numberOf checks room decide extended
 examples = record {
   m1-m3 = refl;
   m1-m2-rests = refl;
@@ -25,4 +29,5 @@ examples = record {
   m8 = refl;
   m9-m11 = m9-m10-m11;
   m11-number = refl;
+  m9-m11-answers = refl;
 }

@@ -1,5 +1,5 @@
 -- Document 01's marked bench cards, M1 to M11, said of the definitions that the contracts cite. Assumes nothing.
-use Prim.Native.Nat.{ℕ, _^_}
+use Prim.Native.Nat.{ℕ, zero, suc, _^_}
 use mathlib.Core.Path.{_≡_}
 use mathlib.Core.Bool.{true, false}
 use mathlib.Core.List.{List, [], _∷_, _++_}
@@ -15,6 +15,10 @@ use Rattle.ranked_pair_dictionary.specs.FrequentId.{writeAnswer, writeBuffer}
 use Rattle.layout.specs.declared.Sizes.{Sizes}
 use Rattle.meta_dv_dict.specs.Rule.{blockRule}
 use Rattle.string_dv_dict.specs.Answers.{packAnswer, packBuffer}
+use Rattle.model.specs.Names.{Name, entered}
+use Rattle.model.specs.Answers.AddAnswer.{refused, fresh, known}
+use Rattle.model.specs.State.{State, opened}
+use Rattle.model.specs.Steps.{addAnswer, afterAdd}
 
 -- ASCII text.
 abbrev pub http : Bytes
@@ -42,6 +46,26 @@ iris n = replicate n 0
 abbrev pub strings : ℕ → List ℕ
 strings n = replicate n 1 ++ iris 65
 
+-- The name of a kind whose first part is one byte; the first n of them, newest first.
+abbrev pub named : ℕ → ℕ → Name
+named k n = entered k (n ∷ []) []
+
+abbrev pub names : ℕ → ℕ → List Name
+names k zero = []
+names k (suc n) = named k n ∷ names k n
+
+-- The state after adds of names, newest first.
+abbrev pub added : Sizes → State → List Name → State
+added s st [] = st
+added s st (a ∷ ns) = afterAdd s (added s st ns) a
+
+-- With b blocks, after n IRIs; with 8 blocks, after 65 IRIs and n strings.
+abbrev pub afterIris : ℕ → ℕ → State
+afterIris b n = added (sizes b) opened (names 0 n)
+
+abbrev pub afterStrings : ℕ → State
+afterStrings n = added (sizes 8) (afterIris 8 65) (names 1 n)
+
 pub record Examples : Type 0 where
   -- M1 `http://p/a#b`, M2 `a/`, M3 `urn:press`: the head's length.
   pub m1-m3 : lengthOf (headOf http) ∷ lengthOf (headOf (97 ∷ 47 ∷ [])) ∷ lengthOf (headOf press) ∷ [] ≡ 11 ∷ 2 ∷ 0 ∷ []
@@ -68,3 +92,9 @@ pub record Examples : Type 0 where
       ∷ blockRule (sizes 7) (iris 64) 0 ∷ []
       ≡ some 16 ∷ some 32 ∷ some 64 ∷ some 112 ∷ some 48 ∷ some 80 ∷ some 96 ∷ none ∷ []
   pub m11-number : numberOf NoBlock ≡ 10
+  -- The same as the adds' own answers; and with B 7 a known one after the refused one.
+  pub m9-m11-answers : addAnswer (sizes 8) (afterIris 8 16) (named 0 16) ∷ addAnswer (sizes 8) (afterIris 8 32) (named 0 32)
+      ∷ addAnswer (sizes 8) (afterIris 8 48) (named 0 48) ∷ addAnswer (sizes 8) (afterIris 8 64) (named 0 64)
+      ∷ addAnswer (sizes 8) (afterStrings 0) (named 1 0) ∷ addAnswer (sizes 8) (afterStrings 16) (named 1 16) ∷ addAnswer (sizes 8) (afterStrings 32) (named 1 32)
+      ∷ addAnswer (sizes 7) (afterIris 7 64) (named 0 64) ∷ addAnswer (sizes 7) (afterIris 7 64) (named 0 20) ∷ []
+      ≡ fresh 16 ∷ fresh 32 ∷ fresh 64 ∷ fresh 112 ∷ fresh 48 ∷ fresh 80 ∷ fresh 96 ∷ refused NoBlock ∷ known 20 ∷ []
