@@ -1,0 +1,217 @@
+// An add of a legal name: everything is decided, then everything is written. The memory may be anybody's.
+use bytes_buffer::Lowest;
+use bytes_buffer::Spot;
+use bytes_dictionary::Counted;
+use bytes_dictionary::EntryId;
+use bytes_index::Probe;
+use layout::KINDS;
+use layout::Sizes;
+use meta_dv_dict::Allocated;
+use meta_dv_dict::GlobalId;
+use meta_dv_dict::LocalId;
+use meta_dv_dict::Number;
+use parts::Mode;
+use refusals::Refusal;
+use string_dv_dict::Checked;
+ghost use mathlib.Core.Path.{_≡_};
+ghost use Prim.Native.Nat.{_≤_, _<_};
+ghost use lib.ListN.{length};
+ghost use Rattle.layout.specs.Sizes.{InRange, kinds, listBytes};
+ghost use Rattle.bytes_index.specs.Search.{keyOf, Searched};
+ghost use Rattle.bytes_index.specs.declared.Probe.the-variants.{Free};
+ghost use Rattle.model.specs.Kinds.{row};
+ghost use Rattle.enter.specs.Answers.{addedBy, spotChecked, blockRefused, Stamps, Knows, Reserves, Plans};
+ghost use Rattle.enter.specs.Added.{Lent, Added, HasKey};
+
+pub enum AddResult {
+    Fresh(GlobalId),
+    Known(GlobalId),
+    Refused(Refusal),
+}
+
+// A stamp for the order of the names. Bad: the memory is no dictionary's.
+enum Stamp {
+    At(usize),
+    Bad,
+}
+
+// The next stamp: how many names there are of all kinds.
+fn next_stamp(lists: &[u8], s: Sizes) -> Stamp
+    requires { ⌜ InRange s × (listBytes s ≤ length (now lists)) ⌝ }
+    ensures { λ r. ⌜ Stamps s (now (lists .entry)) r ⌝ }
+{
+    let mut t = 0;
+    let mut k = 0;
+    while k < KINDS {
+        let Counted::Entries(n) = bytes_dictionary::count(lists, s, names::main_dictionary(k))
+        else {
+            return Stamp::Bad;
+        };
+        t += n;
+        k += 1;
+    }
+    Stamp::At(t)
+}
+
+// Whether an entry can be written at a spot.
+pub fn check_spot(spot: Spot) -> Checked
+    ensures { λ r. ⌜ r ≡ spotChecked spot ⌝ }
+{
+    match spot {
+        Spot::Current { page: _, offset: _ } => Checked::Legal,
+        Spot::Next(_) => Checked::Legal,
+        Spot::NoPage => Checked::Illegal(Refusal::NoPage),
+        Spot::Bad => Checked::Illegal(Refusal::Unopened),
+    }
+}
+
+// Where the next name of a kind goes: its block, and its stamp.
+pub enum Reserved {
+    Block { g: usize, stamp: usize },
+    Refused(Refusal),
+}
+
+// The refusal of a block that is none.
+fn refuse_block(allocated: Allocated) -> Reserved
+    ensures { λ r. ⌜ r ≡ blockRefused allocated ⌝ }
+{
+    match allocated {
+        Allocated::Block(_) => Reserved::Refused(Refusal::Unopened),
+        Allocated::NoBlock => Reserved::Refused(Refusal::NoBlock),
+        Allocated::Bad => Reserved::Refused(Refusal::Unopened),
+    }
+}
+
+// The block and the stamp of the kind k's name number n.
+pub fn reserve(lists: &[u8], s: Sizes, k: usize, n: usize) -> Reserved
+    requires { ⌜ InRange s × (listBytes s ≤ length (now lists)) × (k < kinds) ⌝ }
+    ensures { λ r. ⌜ Reserves s (now (lists .entry)) k n r ⌝ }
+{
+    let allocated = meta_dv_dict::allocate_block(lists, s, k, LocalId(n));
+    let Allocated::Block(g) = allocated else {
+        return refuse_block(allocated);
+    };
+    let Stamp::At(stamp) = next_stamp(lists, s) else {
+        return Reserved::Refused(Refusal::Unopened);
+    };
+    Reserved::Block { g, stamp }
+}
+
+// A name that is there has the number of its entry.
+pub fn known(lists: &[u8], s: Sizes, k: usize, id: EntryId) -> AddResult
+    requires { ⌜ InRange s × (listBytes s ≤ length (now lists)) × (k < kinds) ⌝ }
+    ensures { λ r. ⌜ Knows s (now (lists .entry)) k (id .0) r ⌝ }
+{
+    let number = meta_dv_dict::local_to_global(lists, s, k, names::entry_to_local(id));
+    let Number::Global(x) = number else {
+        return AddResult::Refused(Refusal::Unopened);
+    };
+    AddResult::Known(x)
+}
+
+// What an add of one entry writes: its number, its spot, its block and its stamp.
+struct Plan {
+    n: usize,
+    spot: Spot,
+    g: usize,
+    stamp: usize,
+}
+
+enum Planned {
+    Ready(Plan),
+    Refused(Refusal),
+}
+
+// Decides where one more entry of len bytes goes among the kind k's names: refusals 8, 9, 10.
+fn plan_entry(lists: &[u8], s: Sizes, k: usize, len: usize) -> Planned
+    requires { ⌜ InRange s × (listBytes s ≤ length (now lists)) × (k < kinds) × (len ≤ 8192) ⌝ }
+    ensures { λ r. ⌜ Plans s (now (lists .entry)) k len r ⌝ }
+{
+    let d = names::main_dictionary(k);
+    let Counted::Entries(n) = bytes_dictionary::count(lists, s, d) else {
+        return Planned::Refused(Refusal::Unopened);
+    };
+    if s.e <= n {
+        return Planned::Refused(Refusal::ListFull);
+    }
+    let Lowest::Page(untaken) = bytes_buffer::untaken(lists, s) else {
+        return Planned::Refused(Refusal::Unopened);
+    };
+    let spot = bytes_buffer::plan(lists, s, d, untaken, len);
+    if let Checked::Illegal(why) = check_spot(spot) {
+        return Planned::Refused(why);
+    }
+    match reserve(lists, s, k, n) {
+        Reserved::Block { g, stamp } => Planned::Ready(Plan { n, spot, g, stamp }),
+        Reserved::Refused(why) => Planned::Refused(why),
+    }
+}
+
+// Adds a key that is not among the kind k's names. Its search ended at `place`.
+fn add_entry(
+    pages: &mut [u8],
+    lists: &mut [u8],
+    s: Sizes,
+    k: usize,
+    place: usize,
+    prefix: &[u8],
+    mode: Mode,
+    tag: &[u8],
+    rest: &[u8],
+) -> AddResult
+    requires { ⌜ Lent s (now pages) (now lists) k ⌝ }
+    requires { ⌜ Searched s (row k .mainAt) (now pages) (now lists) (keyOf (now prefix) mode (now tag) (now rest)) (Free place) ⌝ }
+    requires { ⌜ length (keyOf (now prefix) mode (now tag) (now rest)) ≤ 8192 ⌝ }
+    ensures { λ r. ⌜ Added s (HasKey k (keyOf (now (prefix .entry)) mode (now (tag .entry)) (now (rest .entry)))) (now (pages .entry)) (now (lists .entry)) (addedBy r) (now (pages .exit)) (now (lists .exit)) ⌝ }
+{
+    let len = prefix.len() + parts::measure(mode, tag) + rest.len();
+    match plan_entry(lists, s, k, len) {
+        Planned::Ready(x) => {
+            let d = names::main_dictionary(k);
+            let n = x.n;
+            let g = x.g;
+            let spot = x.spot;
+            let stamp = x.stamp;
+            bytes_dictionary::insert(
+                pages,
+                lists,
+                s,
+                d,
+                n,
+                place,
+                spot,
+                stamp,
+                prefix,
+                mode,
+                tag,
+                rest,
+            );
+            meta_dv_dict::take_block(lists, s, k, LocalId(n), g);
+            AddResult::Fresh(meta_dv_dict::number_in(s, g, LocalId(n)))
+        }
+        Planned::Refused(why) => AddResult::Refused(why),
+    }
+}
+
+// Adds a key to the kind k's names, or finds it there (Nemo's add_str).
+pub fn add_str(
+    pages: &mut [u8],
+    lists: &mut [u8],
+    s: Sizes,
+    k: usize,
+    prefix: &[u8],
+    mode: Mode,
+    tag: &[u8],
+    rest: &[u8],
+) -> AddResult
+    requires { ⌜ Lent s (now pages) (now lists) k ⌝ }
+    requires { ⌜ length (keyOf (now prefix) mode (now tag) (now rest)) ≤ 8192 ⌝ }
+    ensures { λ r. ⌜ Added s (HasKey k (keyOf (now (prefix .entry)) mode (now (tag .entry)) (now (rest .entry)))) (now (pages .entry)) (now (lists .entry)) (addedBy r) (now (pages .exit)) (now (lists .exit)) ⌝ }
+{
+    let d = names::main_dictionary(k);
+    match bytes_index::bytes_to_id(pages, lists, s, d, prefix, mode, tag, rest) {
+        Probe::At(i) => known(lists, s, k, EntryId(i)),
+        Probe::Free(place) => add_entry(pages, lists, s, k, place, prefix, mode, tag, rest),
+        Probe::Bad => AddResult::Refused(Refusal::Unopened),
+    }
+}

@@ -1,0 +1,176 @@
+-- What the plan of a head and its pair answers, from what was read for it. Assumes nothing.
+use Prim.Native.Nat.{ℕ, _≤_, _<_}
+use mathlib.Core.Path.{_≡_, refl, sym, ap, subst, _∙_}
+use mathlib.Core.Logic.{_⊎_, inl, inr}
+use mathlib.Core.Option.{Option, none, some}
+use native.Mathlib.Omega.{arith}
+use lib.ListN.{length}
+use Rattle.slices.specs.Bytes.{Bytes}
+use Rattle.words.specs.Words.{wordAt}
+use Rattle.refusals.specs.declared.Refusal.{Refusal}
+use Rattle.refusals.specs.declared.Refusal.the-variants as W
+use Rattle.string_dv_dict.specs.declared.Checked.the-variants.{Illegal}
+use Rattle.layout.specs.declared.Sizes.{Sizes}
+use Rattle.layout.specs.Sizes.{kinds, pageSize}
+use Rattle.layout.specs.Fields.{untakenAt}
+use Rattle.bytes_buffer.specs.declared.Lowest.the-variants as L
+use Rattle.bytes_buffer.specs.declared.Spot.{Spot}
+use Rattle.bytes_buffer.specs.declared.Spot.the-variants.{Current, Next, NoPage, Bad}
+use Rattle.bytes_buffer.specs.Pages.{allPages}
+use Rattle.bytes_buffer.specs.Spots.{lowestOf, spotIn, InPages, untakenAfter}
+use Rattle.bytes_dictionary.specs.declared.Counted.the-variants as C
+use Rattle.bytes_dictionary.specs.Reading.{countIn}
+use Rattle.bytes_dictionary.specs.Written.{IsSpot}
+use Rattle.bytes_dictionary.proofs.Written.{plan-room}
+use Rattle.meta_dv_dict.specs.Blocks.{pick}
+use Rattle.model.specs.Kinds.{row}
+use Rattle.model.specs.State.{State, stampOf}
+use Rattle.memory.specs.Stands.{Stands}
+use Rattle.memory.specs.Promises.{Between}
+use Rattle.memory.proofs.Probes.{main-below, head-below}
+use Rattle.memory.proofs.Counts.{main-counted, next-count, lowest-is-known, spot-known}
+use Rattle.enter.specs.declared.Reserved.{Reserved}
+use Rattle.enter.specs.declared.Reserved.the-variants as R
+use Rattle.enter.specs.Answers.{spotChecked, reservedBy, Reserves}
+use Rattle.enter.proofs.Steps.{countWord}
+use Rattle.enter_pair.specs.declared.PairPlanned.the-variants as P
+use Rattle.enter_pair.specs.Plans.{headSpot, pairSpot, NoPair, full, pageless, blockless, PlansPair}
+
+-- What was read first: the count of the pairs, which leaves a place, as does the number h of the head, and the lowest untaken page.
+pub record Counts (s : Sizes) (lists : Bytes) (k h n u : ℕ) : Type 0 where
+  pub counted : countIn s (countWord lists k) ≡ C.Entries n
+  pub room : n < s .e
+  pub head-room : h < s .e
+  pub lowest : lowestOf s (wordAt lists untakenAt) ≡ L.Page u
+
+module _ (s : Sizes) (lists : Bytes) (k h size len : ℕ) (l : k < kinds) where
+  -- ---- the refusals before a spot is planned
+
+  number-is : {pages : Bytes} {st : State} (S : Stands s st pages lists) (n : ℕ) → countIn s (countWord lists k) ≡ C.Entries n → n ≡ length (st .part k .names)
+  number-is {pages} {st} S n e = let f : C.Entries n ≡ C.Entries (length (st .part k .names)) = sym e ∙ main-counted S k l in cc
+
+  pub plans-uncounted : countIn s (countWord lists k) ≡ C.Bad → PlansPair s lists k h size len (P.Refused W.Unopened)
+  plans-uncounted e =
+      record {
+        bounded = refl;
+        right = λ pages st S. let f : C.Bad ≡ C.Entries (length (st .part k .names)) = sym e ∙ main-counted S k l in let z : _≡_ {A = ℕ} 0 1 = cc in absurd (omega arith);
+      }
+
+  pub plans-full : (n : ℕ) → countIn s (countWord lists k) ≡ C.Entries n → (s .e ≤ n) ⊎ (s .e ≤ h) → PlansPair s lists k h size len (P.Refused W.ListFull)
+  plans-full n e o = record { bounded = refl; right = λ pages st S. full (go (number-is S n e) o) }
+    where
+      go : {m : ℕ} → n ≡ m → (s .e ≤ n) ⊎ (s .e ≤ h) → (s .e ≤ m) ⊎ (s .e ≤ h)
+      go q (inl g) = inl (omega arith)
+      go q (inr g) = inr g
+
+  pub plans-unpaged : lowestOf s (wordAt lists untakenAt) ≡ L.Bad → PlansPair s lists k h size len (P.Refused W.Unopened)
+  plans-unpaged e =
+      record {
+        bounded = refl;
+        right = λ pages st S. let f : L.Bad ≡ L.Page (allPages (st .space)) = sym e ∙ lowest-is-known S in let z : _≡_ {A = ℕ} 0 1 = cc in absurd (omega arith);
+      }
+
+  module _ (n u : ℕ) (F : Counts s lists k h n u) where
+    room-is : {pages : Bytes} {st : State} → Stands s st pages lists → length (st .part k .names) < s .e
+    room-is S = omega (arith, number-is S n (F .counted), F .room)
+
+    pages-is : {pages : Bytes} {st : State} → Stands s st pages lists → allPages (st .space) ≡ u
+    pages-is {pages} {st} S = let f : L.Page u ≡ L.Page (allPages (st .space)) = sym (F .lowest) ∙ lowest-is-known S in cc
+
+    -- ---- the head's spot is planned
+
+    module _ (hspot : Spot) (hplanned : spotIn s (wordAt lists) (row k .headsAt) u size ≡ hspot) where
+      head-is : {pages : Bytes} {st : State} → Stands s st pages lists → headSpot s st lists k size ≡ hspot
+      head-is S = ap (λ (v : ℕ). spotIn s (wordAt lists) (row k .headsAt) v size) (pages-is S) ∙ hplanned
+
+      pub plans-headless : (why : Refusal) → spotChecked hspot ≡ Illegal why → PlansPair s lists k h size len (P.Refused why)
+      plans-headless why e = go hspot refl e
+        where
+          go : (x : Spot) → hspot ≡ x → spotChecked x ≡ Illegal why → PlansPair s lists k h size len (P.Refused why)
+          go (Current page offset) p e = let z : _≡_ {A = ℕ} 0 1 = cc in absurd (omega arith)
+          go (Next page) p e = let z : _≡_ {A = ℕ} 0 1 = cc in absurd (omega arith)
+          go NoPage p e =
+              let q : W.NoPage ≡ why = cc in
+              subst (λ (x : Refusal). PlansPair s lists k h size len (P.Refused x)) q
+              (record { bounded = refl; right = λ pages st S. pageless (room-is S) (F .head-room) (inl (head-is S ∙ p)) })
+          go Bad p e =
+              let q : W.Unopened ≡ why = cc in
+              subst (λ (x : Refusal). PlansPair s lists k h size len (P.Refused x)) q
+              (record { bounded = refl; right = λ pages st S. absurd (spot-known S (row k .headsAt) u size (head-below k) (hplanned ∙ p)) })
+
+      -- ---- and then the pair's
+
+      module _ (hspotted : IsSpot hspot) (spot : Spot) (planned : spotIn s (wordAt lists) (row k .mainAt) (untakenAfter u hspot) len ≡ spot) where
+        head-spotted : {pages : Bytes} {st : State} → Stands s st pages lists → IsSpot (headSpot s st lists k size)
+        head-spotted S = subst IsSpot (sym (head-is S)) hspotted
+
+        pair-is : {pages : Bytes} {st : State} → Stands s st pages lists → pairSpot s st lists k size len ≡ spot
+        pair-is {pages} {st} S =
+            ap (λ (x : Spot). spotIn s (wordAt lists) (row k .mainAt) (untakenAfter (allPages (st .space)) x) len) (head-is S)
+            ∙ ap (λ (v : ℕ). spotIn s (wordAt lists) (row k .mainAt) (untakenAfter v hspot) len) (pages-is S)
+            ∙ planned
+
+        pub plans-pairless : (why : Refusal) → spotChecked spot ≡ Illegal why → PlansPair s lists k h size len (P.Refused why)
+        plans-pairless why e = go spot refl e
+          where
+            go : (x : Spot) → spot ≡ x → spotChecked x ≡ Illegal why → PlansPair s lists k h size len (P.Refused why)
+            go (Current page offset) p e = let z : _≡_ {A = ℕ} 0 1 = cc in absurd (omega arith)
+            go (Next page) p e = let z : _≡_ {A = ℕ} 0 1 = cc in absurd (omega arith)
+            go NoPage p e =
+                let q : W.NoPage ≡ why = cc in
+                subst (λ (x : Refusal). PlansPair s lists k h size len (P.Refused x)) q
+                (record { bounded = refl; right = λ pages st S. pageless (room-is S) (F .head-room) (inr (head-spotted S, pair-is S ∙ p)) })
+            go Bad p e =
+                let q : W.Unopened ≡ why = cc in
+                subst (λ (x : Refusal). PlansPair s lists k h size len (P.Refused x)) q
+                (record { bounded = refl; right = λ pages st S. absurd (spot-known S (row k .mainAt) (untakenAfter u hspot) len (main-below k) (planned ∙ p)) })
+
+        -- ---- and then the block is chosen
+
+        module _ (spotted : IsSpot spot) where
+          pair-spotted : {pages : Bytes} {st : State} → Stands s st pages lists → IsSpot (pairSpot s st lists k size len)
+          pair-spotted S = subst IsSpot (sym (pair-is S)) spotted
+
+          reserved-is : (r : Reserved) → Reserves s lists k n r → {pages : Bytes} {st : State} (S : Stands s st pages lists)
+              → r ≡ reservedBy (stampOf (st .blocks)) (pick s (st .blocks) k)
+          reserved-is r H {pages} {st} S = H .right pages st S (next-count S k ∙ sym (number-is S n (F .counted)))
+
+          pub plans-blockless : (why : Refusal) → Reserves s lists k n (R.Refused why) → PlansPair s lists k h size len (P.Refused why)
+          plans-blockless why H =
+              record { bounded = bound (H .bounded); right = λ pages st S. go S (stampOf (st .blocks)) (pick s (st .blocks) k) refl (reserved-is _ H S) }
+            where
+              bound : (why ≡ W.Unopened) ⊎ (why ≡ W.NoBlock) → Between 3 10 why
+              bound (inl q) = rw q
+              bound (inr q) = rw q
+
+              go : {pages : Bytes} {st : State} (S : Stands s st pages lists) (t : ℕ) (o : Option ℕ) → pick s (st .blocks) k ≡ o → R.Refused why ≡ reservedBy t o
+                  → NoPair s st lists k h size len why
+              go {pages} {st} S t none p f =
+                  let q : W.NoBlock ≡ why = cc in
+                  subst (NoPair s st lists k h size len) q (blockless (room-is S) (F .head-room) (head-spotted S) (pair-spotted S) p)
+              go {pages} {st} S t (some g) p f = let z : _≡_ {A = ℕ} 0 1 = cc in absurd (omega arith)
+
+          pub plans-ready : (g t : ℕ) → size ≤ pageSize s → len ≤ pageSize s → InPages s u size hspot → InPages s (untakenAfter u hspot) len spot
+              → Reserves s lists k n (R.Block g t)
+              → PlansPair s lists k h size len (P.Ready (record { n = n; head = hspot; pair = spot; g = g; stamp = t }))
+          plans-ready g t hshort short hinside inside H =
+              record {
+                bounded = record {
+                  heads = F .head-room;
+                  number = F .room;
+                  head-spotted = hspotted;
+                  head-room = plan-room s u size hspot hshort hinside;
+                  spotted = spotted;
+                  room = plan-room s (untakenAfter u hspot) len spot short inside;
+                  block = H .bounded .0;
+                  local = H .bounded .1;
+                  stamp = H .bounded .2;
+                };
+                right = λ pages st S.
+                    let r = go (stampOf (st .blocks)) (pick s (st .blocks) k) (reserved-is _ H S) in
+                    record { number = number-is S n (F .counted); head = head-is S; pair = pair-is S; block = r .0; stamp = r .1 };
+              }
+            where
+              go : (x : ℕ) (o : Option ℕ) → R.Block g t ≡ reservedBy x o → (o ≡ some g) × (t ≡ x)
+              go x none f = let z : _≡_ {A = ℕ} 0 1 = cc in absurd (omega arith)
+              go x (some h) f = (cc, cc)

@@ -1,0 +1,39 @@
+-- What the calls that write a head and its pair leave of both slices. Assumes nothing.
+use Prim.Native.Nat.{ℕ}
+use mathlib.Core.Path.{_≡_, ap, _∙_}
+use mathlib.Core.List.{[], _++_, append-nil}
+use lib.ListN.{length}
+use Rattle.slices.specs.Bytes.{Bytes}
+use Rattle.parts.specs.declared.Mode.the-variants.{Raw}
+use Rattle.parts.specs.Parts.{bytesOf}
+use Rattle.layout.specs.declared.Sizes.{Sizes}
+use Rattle.bytes_index.specs.Search.{keyOf}
+use Rattle.bytes_dictionary.specs.Written.{pagesAfter, listsAfter}
+use Rattle.meta_dv_dict.specs.Answers.{written}
+use Rattle.model.specs.Kinds.{row}
+use Rattle.enter_pair.specs.declared.PairPlan.{PairPlan}
+use Rattle.enter_pair.specs.Plans.{pairPages, pairLists}
+
+-- A key of two parts, with no tag between them.
+pub raw-key : (front rest : Bytes) → keyOf front Raw [] rest ≡ front ++ rest
+unfolding bytesOf
+raw-key front rest = rw append-nil
+
+pub both-pages : (s : Sizes) (pages : Bytes) (x : PairPlan) (head lead rest pages₁ pages₂ : Bytes) → pages₁ ≡ pagesAfter s pages (x .head) (keyOf [] Raw [] head)
+    → pages₂ ≡ pagesAfter s pages₁ (x .pair) (keyOf lead Raw [] rest)
+    → pages₂ ≡ pairPages s pages x head (lead ++ rest)
+unfolding pairPages
+both-pages s pages x head lead rest pages₁ pages₂ p q =
+    q ∙ ap (pagesAfter s pages₁ (x .pair)) (raw-key lead rest)
+    ∙ ap (λ (y : Bytes). pagesAfter s y (x .pair) (lead ++ rest)) (p ∙ ap (pagesAfter s pages (x .head)) (raw-key [] head))
+
+pub both-lists : (s : Sizes) (lists : Bytes) (k h headPlace place : ℕ) (x : PairPlan) (head lead rest lists₁ lists₂ lists₃ : Bytes) (heads d : ℕ) → heads ≡ row k .headsAt → d ≡ row k .mainAt
+    → lists₁ ≡ listsAfter s lists heads h headPlace (x .head) (x .stamp) (length (keyOf [] Raw [] head))
+    → lists₂ ≡ listsAfter s lists₁ d (x .n) place (x .pair) (x .stamp) (length (keyOf lead Raw [] rest))
+    → lists₃ ≡ written s lists₂ k (x .n) (x .g)
+    → lists₃ ≡ pairLists s lists k h headPlace place x (length head) (length (lead ++ rest))
+unfolding pairLists
+both-lists s lists k h headPlace place x head lead rest lists₁ lists₂ lists₃ heads d e f p q r =
+    let p′ : lists₁ ≡ listsAfter s lists (row k .headsAt) h headPlace (x .head) (x .stamp) (length head) = rw (raw-key [] head, e) at p in
+    let q′ : lists₂ ≡ listsAfter s lists₁ (row k .mainAt) (x .n) place (x .pair) (x .stamp) (length (lead ++ rest)) = rw (raw-key lead rest, f) at q in
+    r ∙ rw (q′, p′)

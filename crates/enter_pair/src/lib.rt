@@ -1,0 +1,273 @@
+// An add of a head and a rest (Nemo's add_pair), and the choice by kind. Head and pair are counted together: a refused add leaves no head behind.
+use bytes_buffer::Lowest;
+use bytes_buffer::Spot;
+use bytes_dictionary::Counted;
+use bytes_index::Probe;
+use enter::AddResult;
+use enter::Reserved;
+use layout::Sizes;
+use meta_dv_dict::LocalId;
+use names::IRI;
+use names::PLAIN;
+use names::TAGGED;
+use names::TYPED;
+use parts::Mode;
+use ranked_pair_iri_dv_dict::Head;
+use refusals::Refusal;
+use refusals::Written;
+use string_dv_dict::Checked;
+ghost use mathlib.Core.Path.{_≡_};
+ghost use mathlib.Core.Bool.{true};
+ghost use mathlib.Core.List.{[], _++_};
+ghost use mathlib.Core.Option.{none};
+ghost use Prim.Native.Nat.{_+_, _*_, _%_, _^_, _≤_, _<_};
+ghost use lib.ListN.{length};
+ghost use Rattle.layout.specs.Sizes.{InRange, kinds, listBytes};
+ghost use Rattle.bytes_index.specs.Search.{Searched};
+ghost use Rattle.bytes_index.specs.declared.Probe.the-variants.{Free};
+ghost use Rattle.model.specs.Names.{entered};
+ghost use Rattle.model.specs.Answers.{AddAnswer};
+ghost use Rattle.model.specs.Kinds.{row};
+ghost use Rattle.model.specs.Steps.{checks};
+ghost use Rattle.enter.specs.Answers.{addedBy};
+ghost use Rattle.enter.specs.Added.{Lent, Added, HasPair};
+ghost use Rattle.enter_pair.specs.Plans.{PlansPair, PlanFits, pairPages, pairLists};
+
+// What an add of a head and its pair writes: the pair's number, both spots, the block and the stamp.
+struct PairPlan {
+    n: usize,
+    head: Spot,
+    pair: Spot,
+    g: usize,
+    stamp: usize,
+}
+
+enum PairPlanned {
+    Ready(PairPlan),
+    Refused(Refusal),
+}
+
+// Decides where head number h, of `size` bytes, and its pair, of len bytes, go: refusals 8, 9, 10 of both together.
+fn plan_pair(lists: &[u8], s: Sizes, k: usize, h: usize, size: usize, len: usize) -> PairPlanned
+    requires { ⌜ InRange s × (listBytes s ≤ length (now lists)) × (k < kinds) × (row k .paired ≡ true) ⌝ }
+    requires { ⌜ (size ≤ 8192) × (len ≤ 8192) ⌝ }
+    ensures { λ r. ⌜ PlansPair s (now (lists .entry)) k h size len r ⌝ }
+{
+    let d = names::main_dictionary(k);
+    let Counted::Entries(n) = bytes_dictionary::count(lists, s, d) else {
+        return PairPlanned::Refused(Refusal::Unopened);
+    };
+    if s.e <= n || s.e <= h {
+        return PairPlanned::Refused(Refusal::ListFull);
+    }
+    let Lowest::Page(untaken) = bytes_buffer::untaken(lists, s) else {
+        return PairPlanned::Refused(Refusal::Unopened);
+    };
+    let head = bytes_buffer::plan(lists, s, names::head_dictionary(k), untaken, size);
+    if let Checked::Illegal(why) = enter::check_spot(head) {
+        return PairPlanned::Refused(why);
+    }
+    let pair = bytes_buffer::plan(lists, s, d, bytes_buffer::untaken_after(untaken, head), len);
+    if let Checked::Illegal(why) = enter::check_spot(pair) {
+        return PairPlanned::Refused(why);
+    }
+    match enter::reserve(lists, s, k, n) {
+        Reserved::Block { g, stamp } => PairPlanned::Ready(PairPlan {
+            n,
+            head,
+            pair,
+            g,
+            stamp,
+        }),
+        Reserved::Refused(why) => PairPlanned::Refused(why),
+    }
+}
+
+// Writes head number h and its pair as they were planned, and gives the pair's number.
+fn commit_pair(
+    pages: &mut [u8],
+    lists: &mut [u8],
+    s: Sizes,
+    k: usize,
+    h: usize,
+    headplace: usize,
+    place: usize,
+    x: PairPlan,
+    head: &[u8],
+    lead: &[u8],
+    rest: &[u8],
+) -> AddResult
+    requires { ⌜ Lent s (now pages) (now lists) k × (row k .paired ≡ true) × (headplace < 2 * s .e) × (place < 2 * s .e) ⌝ }
+    requires { ⌜ PlanFits s h (length (now head)) (length (now lead ++ now rest)) x ⌝ }
+    ensures answer { λ r. ⌜ addedBy r ≡ AddAnswer.fresh (x .g * 2 ^ s .w + x .n % 2 ^ s .w) ⌝ }
+    ensures pages { λ _. ⌜ now (pages .exit) ≡ pairPages s (now (pages .entry)) x (now (head .entry)) (now (lead .entry) ++ now (rest .entry)) ⌝ }
+    ensures lists { λ _. ⌜ now (lists .exit) ≡ pairLists s (now (lists .entry)) k h headplace place x (length (now (head .entry))) (length (now (lead .entry) ++ now (rest .entry))) ⌝ }
+{
+    let n = x.n;
+    let g = x.g;
+    let stamp = x.stamp;
+    let head_spot = x.head;
+    let spot = x.pair;
+    let none = &head[..0];
+    let heads = names::head_dictionary(k);
+    let d = names::main_dictionary(k);
+    bytes_dictionary::insert(
+        pages,
+        lists,
+        s,
+        heads,
+        h,
+        headplace,
+        head_spot,
+        stamp,
+        none,
+        Mode::Raw,
+        none,
+        head,
+    );
+    bytes_dictionary::insert(
+        pages,
+        lists,
+        s,
+        d,
+        n,
+        place,
+        spot,
+        stamp,
+        lead,
+        Mode::Raw,
+        none,
+        rest,
+    );
+    meta_dv_dict::take_block(lists, s, k, LocalId(n), g);
+    AddResult::Fresh(meta_dv_dict::number_in(s, g, LocalId(n)))
+}
+
+// Adds a new head, whose search ended at `headplace`, and its pair. The head's number will be how many heads there are.
+fn add_both(
+    pages: &mut [u8],
+    lists: &mut [u8],
+    s: Sizes,
+    k: usize,
+    headplace: usize,
+    head: &[u8],
+    rest: &[u8],
+) -> AddResult
+    requires { ⌜ Lent s (now pages) (now lists) k × (row k .paired ≡ true) × (length (now head) + length (now rest) ≤ 4000) ⌝ }
+    requires { ⌜ Searched s (row k .headsAt) (now pages) (now lists) (now head) (Free headplace) ⌝ }
+    ensures { λ r. ⌜ Added s (HasPair k (now (head .entry)) (now (rest .entry))) (now (pages .entry)) (now (lists .entry)) (addedBy r) (now (pages .exit)) (now (lists .exit)) ⌝ }
+{
+    let Counted::Entries(h) = bytes_dictionary::count(lists, s, names::head_dictionary(k)) else {
+        return AddResult::Refused(Refusal::Unopened);
+    };
+    let mut lead = [0u8; 4];
+    let Written::Length(m) = ranked_pair_dictionary::write_frequent_id(h, &mut lead) else {
+        return AddResult::Refused(Refusal::Unopened);
+    };
+    let d = names::main_dictionary(k);
+    let found = bytes_index::bytes_to_id(
+        pages,
+        lists,
+        s,
+        d,
+        &lead[..m],
+        Mode::Raw,
+        &rest[..0],
+        rest,
+    );
+    let Probe::Free(place) = found else {
+        return AddResult::Refused(Refusal::Unopened);
+    };
+    match plan_pair(lists, s, k, h, head.len(), m + rest.len()) {
+        PairPlanned::Ready(x) => commit_pair(
+            pages,
+            lists,
+            s,
+            k,
+            h,
+            headplace,
+            place,
+            x,
+            head,
+            &lead[..m],
+            rest,
+        ),
+        PairPlanned::Refused(why) => AddResult::Refused(why),
+    }
+}
+
+// Adds a head, if it is new, and the pair of its number and the rest; or finds the pair there.
+fn add_pair(
+    pages: &mut [u8],
+    lists: &mut [u8],
+    s: Sizes,
+    k: usize,
+    head: &[u8],
+    rest: &[u8],
+) -> AddResult
+    requires { ⌜ Lent s (now pages) (now lists) k × (row k .paired ≡ true) × (length (now head) + length (now rest) ≤ 4000) ⌝ }
+    ensures { λ r. ⌜ Added s (HasPair k (now (head .entry)) (now (rest .entry))) (now (pages .entry)) (now (lists .entry)) (addedBy r) (now (pages .exit)) (now (lists .exit)) ⌝ }
+{
+    match search::find_head(pages, lists, s, k, head) {
+        Probe::At(f) => {
+            let mut lead = [0u8; 4];
+            let Written::Length(m) = ranked_pair_dictionary::write_frequent_id(f, &mut lead) else {
+                return AddResult::Refused(Refusal::Unopened);
+            };
+            enter::add_str(pages, lists, s, k, &lead[..m], Mode::Raw, &rest[..0], rest)
+        }
+        Probe::Free(headplace) => add_both(pages, lists, s, k, headplace, head, rest),
+        Probe::Bad => AddResult::Refused(Refusal::Unopened),
+    }
+}
+
+fn add_iri(pages: &mut [u8], lists: &mut [u8], s: Sizes, iri: &[u8]) -> AddResult
+    requires { ⌜ Lent s (now pages) (now lists) 0 × (length (now iri) ≤ 4000) ⌝ }
+    ensures { λ r. ⌜ Added s (λ st a. a ≡ entered 0 (now (iri .entry)) []) (now (pages .entry)) (now (lists .entry)) (addedBy r) (now (pages .exit)) (now (lists .exit)) ⌝ }
+{
+    let Head::Length(n) = ranked_pair_iri_dv_dict::rfind_hashslash_plus(iri) else {
+        return add_pair(pages, lists, s, IRI, &iri[..0], iri);
+    };
+    add_pair(pages, lists, s, IRI, &iri[..n], &iri[n..])
+}
+
+fn add_tagged(pages: &mut [u8], lists: &mut [u8], s: Sizes, text: &[u8], tag: &[u8]) -> AddResult
+    requires { ⌜ Lent s (now pages) (now lists) 2 × (length (now text) + length (now tag) ≤ 4000) ⌝ }
+    ensures { λ r. ⌜ Added s (λ st a. a ≡ entered 2 (now (text .entry)) (now (tag .entry))) (now (pages .entry)) (now (lists .entry)) (addedBy r) (now (pages .exit)) (now (lists .exit)) ⌝ }
+{
+    let front = [names::tag_front(tag)];
+    enter::add_str(
+        pages,
+        lists,
+        s,
+        TAGGED,
+        &front,
+        names::tag_mode(tag),
+        tag,
+        text,
+    )
+}
+
+// Adds a legal name, or finds it there.
+pub fn add_name(
+    pages: &mut [u8],
+    lists: &mut [u8],
+    s: Sizes,
+    kind: usize,
+    first: &[u8],
+    second: &[u8],
+) -> AddResult
+    requires { ⌜ Lent s (now pages) (now lists) kind × (checks s (entered kind (now first) (now second)) ≡ none) ⌝ }
+    ensures { λ r. ⌜ Added s (λ st a. a ≡ entered kind (now (first .entry)) (now (second .entry))) (now (pages .entry)) (now (lists .entry)) (addedBy r) (now (pages .exit)) (now (lists .exit)) ⌝ }
+{
+    if kind == IRI {
+        return add_iri(pages, lists, s, first);
+    }
+    if kind == PLAIN {
+        return enter::add_str(pages, lists, s, PLAIN, second, Mode::Raw, second, first);
+    }
+    if kind == TAGGED {
+        return add_tagged(pages, lists, s, first, second);
+    }
+    add_pair(pages, lists, s, TYPED, first, second)
+}

@@ -1,0 +1,181 @@
+// Where the name of a number lies in the pages, and its copy into a buffer. The memory may be anybody's: every number read from it is tested.
+use bytes_dictionary::EntryId;
+use bytes_dictionary::Lookup;
+use layout::Sizes;
+use meta_dv_dict::GlobalId;
+use meta_dv_dict::Owner;
+use names::IRI;
+use names::PLAIN;
+use names::TAGGED;
+use parts::Mode;
+use ranked_pair_dictionary::FrequentId;
+use string_dv_dict::Form;
+ghost use mathlib.Core.Path.{_≡_};
+ghost use mathlib.Core.Bool.{true};
+ghost use mathlib.Core.List.{_++_};
+ghost use Prim.Native.Nat.{_+_, _≤_, _<_};
+ghost use lib.ListN.{length, drop};
+ghost use lib.Seq.{sets};
+ghost use Rattle.layout.specs.Sizes.{InRange, kinds, pageBytes, listBytes};
+ghost use Rattle.model.specs.Kinds.{row};
+ghost use Rattle.locate.specs.Located.{unescapedIf, piecesIn, Within, LocatesEntry, LocatesName};
+
+// A name in the pages: its kind, the lengths of its parts, and two pieces whose bytes are the first part, then the second. The pieces are an IRI's or a typed
+// value's head and rest, a plain string and nothing, a tagged string's text and its tag, which is escaped if it is a long one.
+pub struct Pieces {
+    pub kind: usize,
+    pub first: usize,
+    pub second: usize,
+    pub front_at: usize,
+    pub front_len: usize,
+    pub back_at: usize,
+    pub back_len: usize,
+    pub escaped: bool,
+}
+
+// Nothing: no name has the number. Bad: the memory is no dictionary's.
+pub enum Located {
+    At(Pieces),
+    Nothing,
+    Bad,
+}
+
+// An entry is a head's frequent id and the rest.
+fn locate_pair(pages: &[u8], lists: &[u8], s: Sizes, k: usize, at: usize, len: usize) -> Located
+    requires { ⌜ InRange s × (pageBytes s ≤ length (now pages)) × (listBytes s ≤ length (now lists)) ⌝ }
+    requires { ⌜ (k < kinds) × (row k .paired ≡ true) × (at + len ≤ pageBytes s) ⌝ }
+    ensures { λ r. ⌜ LocatesEntry s (now (pages .entry)) (now (lists .entry)) k at len r ⌝ }
+{
+    let lead = ranked_pair_dictionary::read_frequent_id(bytes_dictionary::id_to_bytes(
+        pages,
+        at,
+        len,
+    ));
+    let FrequentId::Value { value, length } = lead else {
+        return Located::Bad;
+    };
+    let head = bytes_dictionary::locate(lists, s, names::head_dictionary(k), EntryId(value));
+    let Lookup::At {
+        at: head_at,
+        len: head_len,
+    } = head
+    else {
+        return Located::Bad;
+    };
+    let rest_len = len - length;
+    // What the rest gives to the first part.
+    let moved = if k == IRI { rest_len } else { 0 };
+    Located::At(Pieces {
+        kind: k,
+        first: head_len + moved,
+        second: rest_len - moved,
+        front_at: head_at,
+        front_len: head_len,
+        back_at: at + length,
+        back_len: rest_len,
+        escaped: false,
+    })
+}
+
+// An entry is a packed text and tag.
+fn locate_tagged(pages: &[u8], lists: &[u8], s: Sizes, at: usize, len: usize) -> Located
+    requires { ⌜ InRange s × (pageBytes s ≤ length (now pages)) × (at + len ≤ pageBytes s) ⌝ }
+    ensures { λ r. ⌜ LocatesEntry s (now (pages .entry)) (now (lists .entry)) 2 at len r ⌝ }
+{
+    match string_dv_dict::locate(bytes_dictionary::id_to_bytes(pages, at, len)) {
+        Form::Short(n) => Located::At(Pieces {
+            kind: TAGGED,
+            first: len - (n + 1),
+            second: n,
+            front_at: at + (n + 1),
+            front_len: len - (n + 1),
+            back_at: at + 1,
+            back_len: n,
+            escaped: false,
+        }),
+        Form::Long(end, n) => Located::At(Pieces {
+            kind: TAGGED,
+            first: len - (end + 2),
+            second: n,
+            front_at: at + (end + 2),
+            front_len: len - (end + 2),
+            back_at: at + 1,
+            back_len: end,
+            escaped: true,
+        }),
+        Form::Cut => Located::Bad,
+    }
+}
+
+// An entry is a plain string.
+fn locate_plain(pages: &[u8], lists: &[u8], s: Sizes, at: usize, len: usize) -> Located
+    requires { ⌜ InRange s × (pageBytes s ≤ length (now pages)) × (at + len ≤ pageBytes s) ⌝ }
+    ensures { λ r. ⌜ LocatesEntry s (now (pages .entry)) (now (lists .entry)) 1 at len r ⌝ }
+{
+    Located::At(Pieces {
+        kind: PLAIN,
+        first: len,
+        second: 0,
+        front_at: at,
+        front_len: len,
+        back_at: at,
+        back_len: 0,
+        escaped: false,
+    })
+}
+
+fn locate_entry(pages: &[u8], lists: &[u8], s: Sizes, k: usize, at: usize, len: usize) -> Located
+    requires { ⌜ InRange s × (pageBytes s ≤ length (now pages)) × (listBytes s ≤ length (now lists)) ⌝ }
+    requires { ⌜ (k < kinds) × (at + len ≤ pageBytes s) ⌝ }
+    ensures { λ r. ⌜ LocatesEntry s (now (pages .entry)) (now (lists .entry)) k at len r ⌝ }
+{
+    if k == PLAIN {
+        return locate_plain(pages, lists, s, at, len);
+    }
+    if k == TAGGED {
+        return locate_tagged(pages, lists, s, at, len);
+    }
+    locate_pair(pages, lists, s, k, at, len)
+}
+
+// The name that has a number.
+pub fn locate_name(pages: &[u8], lists: &[u8], s: Sizes, number: GlobalId) -> Located
+    requires { ⌜ InRange s × (pageBytes s ≤ length (now pages)) × (listBytes s ≤ length (now lists)) ⌝ }
+    ensures { λ r. ⌜ LocatesName s (now (pages .entry)) (now (lists .entry)) (number .0) r ⌝ }
+{
+    match meta_dv_dict::global_to_local(lists, s, number) {
+        Owner::Local(k, local) => {
+            let d = names::main_dictionary(k);
+            match bytes_dictionary::locate(lists, s, d, names::local_to_entry(local)) {
+                Lookup::At { at, len } => locate_entry(pages, lists, s, k, at, len),
+                Lookup::Nothing => Located::Nothing,
+                Lookup::Bad => Located::Bad,
+            }
+        }
+        Owner::Free => Located::Nothing,
+        Owner::Bad => Located::Bad,
+    }
+}
+
+// Writes the bytes at `at`, with their escapes undone where they are escaped.
+fn write_piece(piece: &[u8], escaped: bool, buffer: &mut [u8], at: usize)
+    requires { ⌜ at + length (unescapedIf escaped (now piece)) ≤ length (now buffer) ⌝ }
+    ensures { λ _. ⌜ now (buffer .exit) ≡ sets (now (buffer .entry)) at (unescapedIf escaped (now (piece .entry))) ⌝ }
+{
+    if escaped {
+        string_dv_dict::write_unescaped(piece, buffer, at);
+    } else {
+        parts::write(Mode::Raw, piece, &mut buffer[at..]);
+    }
+}
+
+// Writes a located name at the buffer's start: the first part, then the second.
+pub fn copy_name(pages: &[u8], s: Sizes, x: Pieces, buffer: &mut [u8])
+    requires { ⌜ (pageBytes s ≤ length (now pages)) × Within s (now pages) x × (x .first + x .second ≤ length (now buffer)) ⌝ }
+    ensures { λ _. ⌜ now (buffer .exit) ≡ piecesIn (now (pages .entry)) x ++ drop (x .first + x .second) (now (buffer .entry)) ⌝ }
+{
+    let front = bytes_dictionary::id_to_bytes(pages, x.front_at, x.front_len);
+    let back = bytes_dictionary::id_to_bytes(pages, x.back_at, x.back_len);
+    write_piece(front, false, buffer, 0);
+    write_piece(back, x.escaped, buffer, x.front_len);
+}
