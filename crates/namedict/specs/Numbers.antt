@@ -1,6 +1,7 @@
 -- The numbers that an exported entry answers for each answer of the library: a refusal's number with zeros, or 0 and the values. Assumes nothing.
 use Prim.Native.Nat.{ℕ}
 use mathlib.Core.Bool.{Bool, true, false}
+use Rattle.refusals.specs.declared.Refusal.{Refusal}
 use Rattle.refusals.specs.Numbers.{numberOf}
 use Rattle.refusals.specs.declared.Written.{Written}
 use Rattle.refusals.specs.declared.Written.the-variants as W
@@ -8,6 +9,10 @@ use Rattle.ranked_pair_dictionary.specs.declared.FrequentId.{FrequentId}
 use Rattle.ranked_pair_dictionary.specs.declared.FrequentId.the-variants as F
 use Rattle.string_dv_dict.specs.declared.Unpacked.{Unpacked}
 use Rattle.string_dv_dict.specs.declared.Unpacked.the-variants as U
+use Rattle.model.specs.Answers.{OpenAnswer, AddAnswer, FindAnswer, ReadAnswer, CountAnswer}
+use Rattle.namedict.specs.declared.NamedictNumbered.{NamedictNumbered}
+use Rattle.namedict.specs.declared.NamedictName.{NamedictName}
+use Rattle.namedict.specs.declared.NamedictCounted.{NamedictCounted}
 use Rattle.namedict.specs.declared.NamedictWritten.{NamedictWritten}
 use Rattle.namedict.specs.declared.NamedictValue.{NamedictValue}
 use Rattle.namedict.specs.declared.NamedictUnpacked.{NamedictUnpacked}
@@ -28,3 +33,31 @@ valueNumbers (F.Refused why) = record { refusal = numberOf why; value = 0; lengt
 abbrev pub unpackedNumbers : Unpacked → NamedictUnpacked
 unpackedNumbers (U.Lengths m n) = record { refusal = 0; «text_len» = m; «tag_len» = n }
 unpackedNumbers (U.Refused why) = record { refusal = numberOf why; «text_len» = 0; «tag_len» = 0 }
+
+-- ---- the dictionary: a word says which answer, 0 none, 1 fresh, 2 known, 4 name
+
+abbrev pub openNumber : OpenAnswer → ℕ
+openNumber OpenAnswer.done = 0
+openNumber (OpenAnswer.refused why) = numberOf why
+
+abbrev pub refusedNumbers : Refusal → NamedictNumbered
+refusedNumbers why = record { refusal = numberOf why; word = 0; number = 0 }
+
+abbrev pub addNumbers : AddAnswer → NamedictNumbered
+addNumbers (AddAnswer.fresh n) = record { refusal = 0; word = 1; number = n }
+addNumbers (AddAnswer.known n) = record { refusal = 0; word = 2; number = n }
+addNumbers (AddAnswer.refused why) = refusedNumbers why
+
+abbrev pub findNumbers : FindAnswer → NamedictNumbered
+findNumbers (FindAnswer.known n) = record { refusal = 0; word = 2; number = n }
+findNumbers FindAnswer.absent = record { refusal = 0; word = 0; number = 0 }
+findNumbers (FindAnswer.refused why) = refusedNumbers why
+
+abbrev pub nameNumbers : ReadAnswer → NamedictName
+nameNumbers (ReadAnswer.name k m n) = record { refusal = 0; word = 4; kind = k; «first_len» = m; «second_len» = n }
+nameNumbers ReadAnswer.absent = record { refusal = 0; word = 0; kind = 0; «first_len» = 0; «second_len» = 0 }
+nameNumbers (ReadAnswer.refused why) = record { refusal = numberOf why; word = 0; kind = 0; «first_len» = 0; «second_len» = 0 }
+
+abbrev pub countNumbers : CountAnswer → NamedictCounted
+countNumbers (CountAnswer.count n) = record { refusal = 0; count = n }
+countNumbers (CountAnswer.refused why) = record { refusal = numberOf why; count = 0 }

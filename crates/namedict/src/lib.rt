@@ -1,6 +1,13 @@
 // The exported entries, for C and Rust: each calls the library and gives its answer's numbers. include/namedict.h declares them.
+use dictionary::CountResult;
+use dictionary::FindResult;
+use dictionary::OpenResult;
+use dictionary::ReadResult;
+use enter::AddResult;
+use meta_dv_dict::GlobalId;
 use ranked_pair_dictionary::FrequentId;
 use ranked_pair_iri_dv_dict::Head;
+use refusals::Refusal;
 use refusals::Written;
 use string_dv_dict::Unpacked;
 ghost use mathlib.Core.Path.{_≡_};
@@ -9,7 +16,11 @@ ghost use Rattle.utf8.specs.Text.{isText};
 ghost use Rattle.ranked_pair_iri_dv_dict.specs.Split.{headOf, lengthOf};
 ghost use Rattle.ranked_pair_dictionary.specs.FrequentId.{writeAnswer, writeBuffer, readAnswer};
 ghost use Rattle.string_dv_dict.specs.Answers.{packAnswer, packBuffer, unpackAnswer, unpackBuffer};
-ghost use Rattle.namedict.specs.Numbers.{yesNo, writtenNumbers, valueNumbers, unpackedNumbers};
+ghost use Rattle.model.specs.Names.{entered};
+ghost use Rattle.model.specs.Answers.{OpenAnswer, AddAnswer, FindAnswer, ReadAnswer, CountAnswer};
+ghost use Rattle.memory.specs.Promises.{OpenPost, AddPost, FindPost, ReadPost, CountPost};
+ghost use Rattle.dictionary.specs.Answers.{addedBy, foundBy, toldBy, countedBy};
+ghost use Rattle.namedict.specs.Numbers.{yesNo, writtenNumbers, valueNumbers, unpackedNumbers, openNumber, refusedNumbers, addNumbers, findNumbers, nameNumbers, countNumbers};
 
 // Packing, writing a frequent id.
 #[repr(C)]
@@ -48,6 +59,129 @@ fn written(answer: Written) -> NamedictWritten
         },
     }
 }
+
+// Add: fresh, known; find: known, none. The word says which: 0 none, 1 fresh, 2 known.
+#[repr(C)]
+pub struct NamedictNumbered {
+    pub refusal: u64,
+    pub word: u64,
+    pub number: u64,
+}
+
+// Read. The word is 4 for a name, 0 for none.
+#[repr(C)]
+pub struct NamedictName {
+    pub refusal: u64,
+    pub word: u64,
+    pub kind: u64,
+    pub first_len: u64,
+    pub second_len: u64,
+}
+
+// Count.
+#[repr(C)]
+pub struct NamedictCounted {
+    pub refusal: u64,
+    pub count: u64,
+}
+
+// Which answer.
+const NONE: u64 = 0;
+
+const FRESH: u64 = 1;
+
+const KNOWN: u64 = 2;
+
+const NAME: u64 = 4;
+
+fn numbered(word: u64, number: u64) -> NamedictNumbered
+    ensures { λ r. ⌜ r ≡ record { refusal = 0; word = word; number = number } ⌝ }
+{
+    NamedictNumbered {
+        refusal: 0,
+        word,
+        number,
+    }
+}
+
+fn refused(why: Refusal) -> NamedictNumbered
+    ensures { λ r. ⌜ r ≡ refusedNumbers why ⌝ }
+{
+    NamedictNumbered {
+        refusal: refusals::number(why),
+        word: 0,
+        number: 0,
+    }
+}
+
+fn added(answer: AddResult) -> NamedictNumbered
+    ensures { λ r. ⌜ r ≡ addNumbers (addedBy answer) ⌝ }
+{
+    match answer {
+        AddResult::Fresh(x) => numbered(FRESH, x.0 as u64),
+        AddResult::Known(x) => numbered(KNOWN, x.0 as u64),
+        AddResult::Refused(why) => refused(why),
+    }
+}
+
+fn found(answer: FindResult) -> NamedictNumbered
+    ensures { λ r. ⌜ r ≡ findNumbers (foundBy answer) ⌝ }
+{
+    match answer {
+        FindResult::Known(x) => numbered(KNOWN, x.0 as u64),
+        FindResult::Nothing => numbered(NONE, 0),
+        FindResult::Refused(why) => refused(why),
+    }
+}
+
+fn told(answer: ReadResult) -> NamedictName
+    ensures { λ r. ⌜ r ≡ nameNumbers (toldBy answer) ⌝ }
+{
+    match answer {
+        ReadResult::Name {
+            kind,
+            first,
+            second,
+        } => NamedictName {
+            refusal: 0,
+            word: NAME,
+            kind: kind as u64,
+            first_len: first as u64,
+            second_len: second as u64,
+        },
+        ReadResult::Nothing => NamedictName {
+            refusal: 0,
+            word: NONE,
+            kind: 0,
+            first_len: 0,
+            second_len: 0,
+        },
+        ReadResult::Refused(why) => NamedictName {
+            refusal: refusals::number(why),
+            word: 0,
+            kind: 0,
+            first_len: 0,
+            second_len: 0,
+        },
+    }
+}
+
+fn counted(answer: CountResult) -> NamedictCounted
+    ensures { λ r. ⌜ r ≡ countNumbers (countedBy answer) ⌝ }
+{
+    match answer {
+        CountResult::Names(n) => NamedictCounted {
+            refusal: 0,
+            count: n as u64,
+        },
+        CountResult::Refused(why) => NamedictCounted {
+            refusal: refusals::number(why),
+            count: 0,
+        },
+    }
+}
+
+// ---- the leaf rules
 
 // 1 if the bytes are text, else 0.
 #[no_mangle]
@@ -121,4 +255,83 @@ pub extern "C" fn namedict_unpack(packed: &[u8], buffer: &mut [u8]) -> NamedictU
             tag_len: 0,
         },
     }
+}
+
+// ---- the dictionary
+
+// Opens a dictionary with no names in the memory lent: 0 done, 1 bad size, 2 short memory.
+#[no_mangle]
+pub extern "C" fn namedict_open(
+    pages: &[u8],
+    lists: &mut [u8],
+    page_width: u64,
+    page_count: u64,
+    list_length: u64,
+    block_width: u64,
+    block_count: u64,
+) -> u64
+    ensures { λ r. ⌜ ((x : OpenAnswer) × (r ≡ openNumber x) × OpenPost (record { p = «page_width»; n = «page_count»; e = «list_length»; w = «block_width»; b = «block_count» }) (now (pages .entry)) (now (lists .entry)) x (now (pages .entry)) (now (lists .exit))) ⌝ }
+{
+    let answer = dictionary::open(
+        pages,
+        lists,
+        page_width as usize,
+        page_count as usize,
+        list_length as usize,
+        block_width as usize,
+        block_count as usize,
+    );
+    match answer {
+        OpenResult::Done => 0,
+        OpenResult::Refused(why) => refusals::number(why),
+    }
+}
+
+// Gives a name its number: fresh, or known already.
+#[no_mangle]
+pub extern "C" fn namedict_add(
+    pages: &mut [u8],
+    lists: &mut [u8],
+    kind: u64,
+    first: &[u8],
+    second: &[u8],
+) -> NamedictNumbered
+    ensures { λ r. ⌜ ((x : AddAnswer) × (r ≡ addNumbers x) × AddPost (now (pages .entry)) (now (lists .entry)) (entered kind (now (first .entry)) (now (second .entry))) x (now (pages .exit)) (now (lists .exit))) ⌝ }
+{
+    added(dictionary::add(pages, lists, kind as usize, first, second))
+}
+
+// The number that a name has.
+#[no_mangle]
+pub extern "C" fn namedict_find(
+    pages: &[u8],
+    lists: &[u8],
+    kind: u64,
+    first: &[u8],
+    second: &[u8],
+) -> NamedictNumbered
+    ensures { λ r. ⌜ ((x : FindAnswer) × (r ≡ findNumbers x) × FindPost (now (pages .entry)) (now (lists .entry)) (entered kind (now (first .entry)) (now (second .entry))) x) ⌝ }
+{
+    found(dictionary::find(pages, lists, kind as usize, first, second))
+}
+
+// The name that has a number: its parts at the buffer's start, one after the other.
+#[no_mangle]
+pub extern "C" fn namedict_read(
+    pages: &[u8],
+    lists: &[u8],
+    number: u64,
+    buffer: &mut [u8],
+) -> NamedictName
+    ensures { λ r. ⌜ ((x : ReadAnswer) × (r ≡ nameNumbers x) × ReadPost (now (pages .entry)) (now (lists .entry)) number (now (buffer .entry)) x (now (buffer .exit))) ⌝ }
+{
+    told(dictionary::read(pages, lists, GlobalId(number as usize), buffer))
+}
+
+// How many names of a kind there are.
+#[no_mangle]
+pub extern "C" fn namedict_count(pages: &[u8], lists: &[u8], kind: u64) -> NamedictCounted
+    ensures { λ r. ⌜ ((x : CountAnswer) × (r ≡ countNumbers x) × CountPost (now (pages .entry)) (now (lists .entry)) kind x) ⌝ }
+{
+    counted(dictionary::count(pages, lists, kind as usize))
 }

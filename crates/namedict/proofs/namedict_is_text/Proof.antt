@@ -1,6 +1,5 @@
 -- The answer of the text check, as a number. Assumes nothing.
-use mathlib.Core.Path.{sym, _∙_, ap}
-use Rattle.namedict.specs.Numbers.{yesNo}
+use mathlib.Core.Path.{sym, _∙_}
 use borrow.Author.Needs.{needs}
 use Rattle.namedict.proofs.namedict_is_text.Statement.{statement}
 use Rattle.namedict.proofs.namedict_is_text.Tie as tie

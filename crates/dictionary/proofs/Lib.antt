@@ -1,0 +1,8 @@
+-- Laws that belong to no one function.
+pub mod Headers
+pub mod Refusals
+pub mod Opens
+pub mod Adds
+pub mod Finds
+pub mod Tells
+pub mod Counts

@@ -1,0 +1,155 @@
+-- The search and the blocks say what find answers, once the header and the name are checked. Assumes nothing.
+use mathlib.Core.Path.{_≡_, sym, subst, _∙_}
+use mathlib.Core.Option.{none}
+use lib.ListN.{length}
+use Rattle.layout.specs.declared.Header.the-variants.{Opened}
+use Rattle.layout.specs.Header.{headerOf}
+use Rattle.meta_dv_dict.specs.Answers.{Globals}
+use Rattle.string_dv_dict.proofs.Answers.{told-legal, told-illegal}
+use Rattle.model.specs.Names.{entered}
+use Rattle.model.specs.Steps.{checks}
+use Rattle.model.proofs.Legal.{legal-kind}
+use Rattle.search.specs.declared.Search.the-variants.{Found}
+use Rattle.search.specs.Found.{Lent, FindsName}
+use Rattle.dictionary.proofs.Headers.{header, in-range}
+use Rattle.dictionary.proofs.Finds.{find-unopened, find-illegal, find-known, find-bad-number, find-none, find-bad}
+use borrow.Author.Needs.{needs}
+use Rattle.dictionary.proofs.find.Statement.{statement}
+use Rattle.dictionary.proofs.find.Tie as tie
+
+-- The sizes that the header has.
+opened : (c : tie.After-s) →
+    let a = c .before .before .before .before .before .before .before .args in
+    headerOf (length (a .pages .now)) (a .lists .now) ≡ Opened (c .s .given .0 .0)
+opened c = sym (c .before .before .check-header .ensures) ∙ c .s .given .1
+
+-- The name is legal.
+legal : (c : tie.After-enum-told2) →
+    let a = c .before .before .before .before .before .before .before .before .before .before .before .args in
+    checks (c .before .before .before .before .s .given .0 .0) (entered (a .kind) (a .first .now) (a .second .now)) ≡ none
+legal c = told-legal _ (sym (c .before .before .check-name .ensures) ∙ c .enum-told2 .given .1)
+
+lent : (c : tie.After-enum-told2) →
+    let a = c .before .before .before .before .before .before .before .before .before .before .before .args in
+    Lent (c .before .before .before .before .s .given .0 .0) (a .pages .now) (a .lists .now) (a .kind)
+lent c =
+    let a = c .before .before .before .before .before .before .before .before .before .before .before .args in
+    let s = c .before .before .before .before .s .given .0 .0 in
+    let h = header (a .pages .now) (a .lists .now) s (opened (c .before .before .before .before)) in
+    record {
+      ranged = in-range (a .pages .now) (a .lists .now) s (opened (c .before .before .before .before));
+      pages-fit = h .pages-fit;
+      lists-fit = h .lists-fit;
+      kinded = legal-kind s (entered (a .kind) (a .first .now) (a .second .now)) (legal c);
+    }
+
+-- Its local number.
+found : (c : tie.After-local) →
+    let a = c .before .before .before .before .before .before .before .before .before .before .before .before .before .before .args in
+    FindsName (c .before .before .before .before .before .before .before .s .given .0 .0) (λ b. b ≡ entered (a .kind) (a .first .now) (a .second .now)) (a .pages .now) (a .lists .now) (Found (c .local .given .0 .0))
+found c =
+    let a = c .before .before .before .before .before .before .before .before .before .before .before .before .before .before .args in
+    subst (FindsName (c .before .before .before .before .before .before .before .s .given .0 .0) (λ b. b ≡ entered (a .kind) (a .first .now) (a .second .now)) (a .pages .now) (a .lists .now)) (c .local .given .1)
+    (c .before .before .find-name .ensures)
+
+check-header-requires : tie.Need-check-header-requires
+check-header-requires c κs = search needs
+
+enum-known-s : tie.Need-enum-known-s
+enum-known-s c = search needs
+
+enum-told : tie.Need-enum-told
+enum-told c = search needs
+
+returns : tie.Need-returns
+returns c =
+    let a = c .before .before .before .before .before .before .before .args in
+    find-unopened (a .pages .now) (a .lists .now) (entered (a .kind) (a .first .now) (a .second .now)) (sym (c .before .before .check-header .ensures) ∙ c .enum-told .given .1)
+
+check-name-requires : tie.Need-check-name-requires
+check-name-requires c κs = search needs
+
+enum-known-why : tie.Need-enum-known-why
+enum-known-why c = search needs
+
+returns-2 : tie.Need-returns-2
+returns-2 c =
+    let a = c .before .before .before .before .before .before .before .before .before .before .before .before .args in
+    find-illegal (a .pages .now) (a .lists .now) (c .before .before .before .before .before .s .given .0 .0) (opened (c .before .before .before .before .before)) (entered (a .kind) (a .first .now) (a .second .now)) _
+    (told-illegal _ _ (sym (c .before .before .before .check-name .ensures) ∙ c .before .why .given .1))
+
+enum-told-2 : tie.Need-enum-told-2
+enum-told-2 c = search needs
+
+find-name-requires : tie.Need-find-name-requires
+find-name-requires c κs = lent c
+
+enum-known-local : tie.Need-enum-known-local
+enum-known-local c = search needs
+
+local-to-global-requires : tie.Need-local-to-global-requires
+local-to-global-requires c κs =
+    let l = lent (c .before .before .before .before) in
+    (l .ranged, l .lists-fit, l .kinded)
+
+enum-known-number : tie.Need-enum-known-number
+enum-known-number c = search needs
+
+enum-told-3 : tie.Need-enum-told-3
+enum-told-3 c = search needs
+
+returns-3 : tie.Need-returns-3
+returns-3 c =
+    let a = c .before .before .before .before .before .before .before .before .before .before .before .before .before .before .before .before .before .before .args in
+    find-bad-number (a .pages .now) (a .lists .now) (c .before .before .before .before .before .before .before .before .before .before .before .s .given .0 .0) (opened (c .before .before .before .before .before .before .before .before .before .before .before)) (entered (a .kind) (a .first .now) (a .second .now)) (legal (c .before .before .before .before .before .before .before)) _ (found (c .before .before .before .before))
+    (subst (Globals (c .before .before .before .before .before .before .before .before .before .before .before .s .given .0 .0) (a .lists .now) (a .kind) (c .before .before .before .before .local .given .0 .0 .0)) (c .enum-told3 .given .1) (c .before .before .local-to-global .ensures))
+
+enum-told-4 : tie.Need-enum-told-4
+enum-told-4 c = search needs
+
+enum-told-5 : tie.Need-enum-told-5
+enum-told-5 c = search needs
+
+returns-4 : tie.Need-returns-4
+returns-4 c =
+    let a = c .before .before .before .before .before .before .before .before .before .before .before .before .before .before .before .before .before .before .before .args in
+    find-known (a .pages .now) (a .lists .now) (c .before .before .before .before .before .before .before .before .before .before .before .before .s .given .0 .0) (opened (c .before .before .before .before .before .before .before .before .before .before .before .before)) (entered (a .kind) (a .first .now) (a .second .now)) (legal (c .before .before .before .before .before .before .before .before)) _ (found (c .before .before .before .before .before)) (c .before .number .given .0 .0)
+    (subst (Globals (c .before .before .before .before .before .before .before .before .before .before .before .before .s .given .0 .0) (a .lists .now) (a .kind) (c .before .before .before .before .before .local .given .0 .0 .0)) (c .before .number .given .1) (c .before .before .before .local-to-global .ensures))
+
+returns-5 : tie.Need-returns-5
+returns-5 c =
+    let a = c .before .before .before .before .before .before .before .before .before .before .before .before .before .before .args in
+    let s = c .before .before .before .before .before .before .before .s .given .0 .0 in
+    find-none (a .pages .now) (a .lists .now) s (opened (c .before .before .before .before .before .before .before)) (entered (a .kind) (a .first .now) (a .second .now)) (legal (c .before .before .before))
+    (subst (FindsName s (λ b. b ≡ entered (a .kind) (a .first .now) (a .second .now)) (a .pages .now) (a .lists .now)) (c .enum-told4 .given .1) (c .before .before .find-name .ensures))
+
+returns-6 : tie.Need-returns-6
+returns-6 c =
+    let a = c .before .before .before .before .before .before .before .before .before .before .before .before .before .before .args in
+    let s = c .before .before .before .before .before .before .before .s .given .0 .0 in
+    find-bad (a .pages .now) (a .lists .now) s (opened (c .before .before .before .before .before .before .before)) (entered (a .kind) (a .first .now) (a .second .now)) (legal (c .before .before .before))
+    (subst (FindsName s (λ b. b ≡ entered (a .kind) (a .first .now) (a .second .now)) (a .pages .now) (a .lists .now)) (c .enum-told5 .given .1) (c .before .before .find-name .ensures))
+
+pub find-spec : {M : Type 1} → statement M
+find-spec =
+    tie.close
+    (tie.spec
+    check-header-requires
+    enum-known-s
+    enum-told
+    returns
+    check-name-requires
+    enum-known-why
+    returns-2
+    enum-told-2
+    find-name-requires
+    enum-known-local
+    local-to-global-requires
+    enum-known-number
+    enum-told-3
+    returns-3
+    enum-told-4
+    enum-told-5
+    returns-4
+    returns-5
+    returns-6)

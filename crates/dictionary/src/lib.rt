@@ -1,0 +1,154 @@
+// The dictionary in lent memory: open, add, find, read, count. Each entry takes any memory and any arguments, and answers or refuses as document 01 says.
+use bytes_dictionary::Counted;
+use enter::AddResult;
+use layout::Header;
+use layout::KINDS;
+use layout::Made;
+use layout::Sizes;
+use locate::Located;
+use meta_dv_dict::GlobalId;
+use meta_dv_dict::Number;
+use refusals::Refusal;
+use search::Search;
+use string_dv_dict::Checked;
+ghost use Rattle.model.specs.Names.{entered};
+ghost use Rattle.memory.specs.Promises.{OpenPost, AddPost, FindPost, ReadPost, CountPost};
+ghost use Rattle.dictionary.specs.Answers.{openedBy, addedBy, foundBy, toldBy, countedBy};
+
+pub enum OpenResult {
+    Done,
+    Refused(Refusal),
+}
+
+pub enum FindResult {
+    Known(GlobalId),
+    Nothing,
+    Refused(Refusal),
+}
+
+// A name's kind and the lengths of its parts.
+pub enum ReadResult {
+    Name {
+        kind: usize,
+        first: usize,
+        second: usize,
+    },
+    Nothing,
+    Refused(Refusal),
+}
+
+pub enum CountResult {
+    Names(usize),
+    Refused(Refusal),
+}
+
+// Makes the memory a dictionary with no names: page width p, pages n, list length e, block width w, blocks b.
+pub fn open(
+    pages: &[u8],
+    lists: &mut [u8],
+    p: usize,
+    n: usize,
+    e: usize,
+    w: usize,
+    b: usize,
+) -> OpenResult
+    ensures { λ r. ⌜ OpenPost (record { p = p; n = n; e = e; w = w; b = b }) (now (pages .entry)) (now (lists .entry)) (openedBy r) (now (pages .entry)) (now (lists .exit)) ⌝ }
+{
+    let Made::Fit(s) = Sizes::new(p, n, e, w, b) else {
+        return OpenResult::Refused(Refusal::BadSize);
+    };
+    if pages.len() < layout::page_bytes(s) {
+        return OpenResult::Refused(Refusal::ShortMemory);
+    }
+    if lists.len() < layout::list_bytes(s) {
+        return OpenResult::Refused(Refusal::ShortMemory);
+    }
+    layout::init(lists, s);
+    OpenResult::Done
+}
+
+// Gives a name its number: a new one, or the one that it has.
+pub fn add(
+    pages: &mut [u8],
+    lists: &mut [u8],
+    kind: usize,
+    first: &[u8],
+    second: &[u8],
+) -> AddResult
+    ensures { λ r. ⌜ AddPost (now (pages .entry)) (now (lists .entry)) (entered kind (now (first .entry)) (now (second .entry))) (addedBy r) (now (pages .exit)) (now (lists .exit)) ⌝ }
+{
+    let Header::Opened(s) = layout::check_header(pages, lists) else {
+        return AddResult::Refused(Refusal::Unopened);
+    };
+    if let Checked::Illegal(why) = names::check_name(s, kind, first, second) {
+        return AddResult::Refused(why);
+    }
+    enter_pair::add_name(pages, lists, s, kind, first, second)
+}
+
+// The number that a name has.
+pub fn find(pages: &[u8], lists: &[u8], kind: usize, first: &[u8], second: &[u8]) -> FindResult
+    ensures { λ r. ⌜ FindPost (now (pages .entry)) (now (lists .entry)) (entered kind (now (first .entry)) (now (second .entry))) (foundBy r) ⌝ }
+{
+    let Header::Opened(s) = layout::check_header(pages, lists) else {
+        return FindResult::Refused(Refusal::Unopened);
+    };
+    if let Checked::Illegal(why) = names::check_name(s, kind, first, second) {
+        return FindResult::Refused(why);
+    }
+    match search::find_name(pages, lists, s, kind, first, second) {
+        Search::Found(local) => {
+            let number = meta_dv_dict::local_to_global(lists, s, kind, local);
+            let Number::Global(x) = number else {
+                return FindResult::Refused(Refusal::Unopened);
+            };
+            FindResult::Known(x)
+        }
+        Search::Nothing => FindResult::Nothing,
+        Search::Bad => FindResult::Refused(Refusal::Unopened),
+    }
+}
+
+// The name that has a number: its parts at the buffer's start, one after the other.
+pub fn read(pages: &[u8], lists: &[u8], number: GlobalId, buffer: &mut [u8]) -> ReadResult
+    ensures { λ r. ⌜ ReadPost (now (pages .entry)) (now (lists .entry)) (number .0) (now (buffer .entry)) (toldBy r) (now (buffer .exit)) ⌝ }
+{
+    let Header::Opened(s) = layout::check_header(pages, lists) else {
+        return ReadResult::Refused(Refusal::Unopened);
+    };
+    match locate::locate_name(pages, lists, s, number) {
+        Located::At(x) => {
+            let kind = x.kind;
+            let first = x.first;
+            let second = x.second;
+            if buffer.len() < first + second {
+                return ReadResult::Refused(Refusal::ShortBuffer);
+            }
+            locate::copy_name(pages, s, x, buffer);
+            ReadResult::Name {
+                kind,
+                first,
+                second,
+            }
+        }
+        Located::Nothing => ReadResult::Nothing,
+        Located::Bad => ReadResult::Refused(Refusal::Unopened),
+    }
+}
+
+// How many names of a kind there are.
+pub fn count(pages: &[u8], lists: &[u8], kind: usize) -> CountResult
+    ensures { λ r. ⌜ CountPost (now (pages .entry)) (now (lists .entry)) kind (countedBy r) ⌝ }
+{
+    let Header::Opened(s) = layout::check_header(pages, lists) else {
+        return CountResult::Refused(Refusal::Unopened);
+    };
+    if KINDS <= kind {
+        return CountResult::Refused(Refusal::BadKind);
+    }
+    let counted = bytes_dictionary::count(lists, s, names::main_dictionary(kind));
+    let Counted::Entries(n) = counted else {
+        return CountResult::Refused(Refusal::Unopened);
+    };
+    CountResult::Names(n)
+}
