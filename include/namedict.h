@@ -1,9 +1,14 @@
 /* The exported entries of libnamedict.a, made by `rt staticlib namedict`.
  *
  * A byte slice passes as a pointer and then a length. Sizes, kinds and numbers
- * are uint64_t. The slices given to one call never overlap: that is the
- * caller's duty, and nothing checks it. With a length of 0 a pointer may be any
- * address but null.
+ * are uint64_t.
+ *
+ * The caller's duties, which nothing checks:
+ * - a pointer and its length name memory that is there. With a length of 0 a
+ *   pointer may be any address but null;
+ * - the slices given to one call never overlap;
+ * - while a call runs, nothing else writes its slices, and nothing else reads
+ *   those that it may write.
  *
  * A field `refusal` is 0 where the call was accepted, else one of the numbers
  * below. With a refusal every other field is 0, and all lent memory is as it
