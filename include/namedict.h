@@ -24,7 +24,7 @@
 extern "C" {
 #endif
 
-/* The four kinds. A name is a first and a second part, 4,000 bytes at the most. */
+/* The four kinds. A name is a first and a second part, both together 4,000 bytes at the most. */
 #define NAMEDICT_IRI    0 /* the IRI, no second part */
 #define NAMEDICT_PLAIN  1 /* the string, no second part */
 #define NAMEDICT_TAGGED 2 /* the text, its tag */
@@ -33,14 +33,14 @@ extern "C" {
 /* Refusals. */
 #define NAMEDICT_BAD_SIZE      1 /* a size is outside its range */
 #define NAMEDICT_SHORT_MEMORY  2 /* a slice lent to open is too short */
-#define NAMEDICT_UNOPENED      3 /* the memory is no dictionary's */
+#define NAMEDICT_UNOPENED      3 /* the memory is no dictionary's, or a slice is too short for its sizes */
 #define NAMEDICT_BAD_KIND      4 /* kind above 3; kind 0 or 1 with a second part */
 #define NAMEDICT_TOO_LONG      5 /* a name over 4,000 bytes, a form over 8,002 */
 #define NAMEDICT_NOT_TEXT      6 /* a part is not UTF-8 by RFC 3629 */
 #define NAMEDICT_NO_TAG        7 /* kind 2 with an empty tag */
 #define NAMEDICT_LIST_FULL     8 /* a list that would gain an entry is full */
 #define NAMEDICT_NO_PAGE       9 /* more pages are needed than are left */
-#define NAMEDICT_NO_BLOCK     10 /* no block of numbers is left */
+#define NAMEDICT_NO_BLOCK     10 /* the block rule finds no free block; lower ones may be free */
 #define NAMEDICT_SHORT_BUFFER 11 /* the buffer is shorter than the answer */
 #define NAMEDICT_HIGH_NUMBER  12 /* a frequent id for 2^30 or more */
 #define NAMEDICT_CUT_FORM     13 /* a form that cannot be read */
@@ -85,7 +85,8 @@ namedict_numbered namedict_find(const uint8_t *pages, size_t pages_len,
                                 const uint8_t *second, size_t second_len);
 
 /* The name that has a number: its kind, both lengths, and its parts one after
- * the other at the buffer's start; or none. Refusals 3, 11. */
+ * the other at the buffer's start, the rest untouched; or none, touching nothing.
+ * Refusals 3, 11. */
 namedict_name namedict_read(const uint8_t *pages, size_t pages_len,
                             const uint8_t *lists, size_t lists_len,
                             uint64_t number, uint8_t *buffer, size_t buffer_len);
@@ -99,7 +100,7 @@ namedict_counted namedict_count(const uint8_t *pages, size_t pages_len,
 /* 1 if the bytes are UTF-8 by RFC 3629, else 0. */
 uint64_t namedict_is_text(const uint8_t *bytes, size_t bytes_len);
 
-/* The length of an IRI's head: up to its last '/' or '#', 0 with neither. */
+/* The length of an IRI's head: up to and with its last '/' or '#', 0 with neither. */
 uint64_t namedict_split_iri(const uint8_t *iri, size_t iri_len);
 
 /* A head's number in 1 to 4 bytes, at the buffer's start. Refusals 12, 11. */

@@ -8,11 +8,9 @@ use lib.ListN.{length}
 use Rattle.slices.specs.Bytes.{Bytes}
 use Rattle.refusals.specs.declared.Refusal.{Refusal}
 use Rattle.refusals.specs.declared.Refusal.the-variants.{Unopened}
-use Rattle.refusals.specs.Numbers.{numberOf}
 use Rattle.layout.specs.declared.Sizes.{Sizes}
 use Rattle.layout.specs.declared.Header.the-variants as H
 use Rattle.layout.specs.Header.{headerOf, sizesIn}
-use Rattle.layout.proofs.Ranges.{between-facts, facts-between}
 use Rattle.model.specs.Names.{Name}
 use Rattle.model.specs.Answers.{AddAnswer}
 use Rattle.model.specs.Steps.{checks}
@@ -21,14 +19,13 @@ use Rattle.memory.specs.Promises.{AddPost}
 use Rattle.memory.proofs.Beyond.{beyond-same}
 use Rattle.enter.specs.Added.{Added}
 use Rattle.dictionary.proofs.Headers.{no-state, sizes-read, not-always, one-sizes}
-use Rattle.dictionary.proofs.Refusals.{check-between}
 
 pub add-unopened : (pages lists : Bytes) (a : Name) → headerOf (length pages) lists ≡ H.Unopened → AddPost pages lists a (AddAnswer.refused Unopened) pages lists
 add-unopened pages lists a e =
     record {
       unopened = λ u. refl;
       illegal = λ why h. inl refl;
-      bounded = refl;
+      bounded = λ c. inl refl;
       kept = λ f. (refl, refl);
       beyond = beyond-same (sizesIn lists) pages lists;
       whole = λ s st S. absurd (no-state pages lists e s st S);
@@ -37,13 +34,14 @@ add-unopened pages lists a e =
 module _ (pages lists : Bytes) (s : Sizes) (e : headerOf (length pages) lists ≡ H.Opened s) (a : Name) where
   pub add-illegal : (why : Refusal) → checks s a ≡ some why → AddPost pages lists a (AddAnswer.refused why) pages lists
   add-illegal why i =
-      let b = between-facts 4 7 (numberOf why) (check-between s a why i) in
       record {
         unopened = λ u. absurd (not-always pages lists s e u);
         illegal = λ w h.
             let j : checks s a ≡ some w = rw (sizes-read pages lists s e) at h in
             let v : why ≡ w = cc in inr (ap AddAnswer.refused v);
-        bounded = facts-between 3 10 (numberOf why) (omega arith) (omega arith);
+        bounded = λ c.
+            let j : checks s a ≡ none = rw (sizes-read pages lists s e) at c in
+            let z : _≡_ {A = ℕ} 0 1 = cc in absurd (omega arith);
         kept = λ f. (refl, refl);
         beyond = beyond-same (sizesIn lists) pages lists;
         whole = λ t st S.
@@ -58,7 +56,7 @@ module _ (pages lists : Bytes) (s : Sizes) (e : headerOf (length pages) lists �
         illegal = λ w i.
             let j : checks s a ≡ some w = rw (sizes-read pages lists s e) at i in
             let z : _≡_ {A = ℕ} 0 1 = cc in absurd (omega arith);
-        bounded = h .bounded;
+        bounded = λ c. rw (sizes-read pages lists s e) (h .bounded);
         kept = h .kept;
         beyond = rw (sizes-read pages lists s e) (h .beyond);
         whole = λ t st S.

@@ -8,11 +8,9 @@ use lib.ListN.{length}
 use Rattle.slices.specs.Bytes.{Bytes}
 use Rattle.refusals.specs.declared.Refusal.{Refusal}
 use Rattle.refusals.specs.declared.Refusal.the-variants.{Unopened}
-use Rattle.refusals.specs.Numbers.{numberOf as refusalNumber}
 use Rattle.layout.specs.declared.Sizes.{Sizes}
 use Rattle.layout.specs.declared.Header.the-variants as H
 use Rattle.layout.specs.Header.{headerOf}
-use Rattle.layout.proofs.Ranges.{between-facts, facts-between}
 use Rattle.meta_dv_dict.specs.declared.Number.the-variants as N
 use Rattle.meta_dv_dict.specs.declared.LocalId.{LocalId}
 use Rattle.meta_dv_dict.specs.declared.GlobalId.{GlobalId}
@@ -29,40 +27,43 @@ use Rattle.memory.proofs.Counts.{next-count}
 use Rattle.search.specs.declared.Search.the-variants.{Found, Nothing, Bad}
 use Rattle.search.specs.Found.{searchBy, FindsName}
 use Rattle.dictionary.proofs.Headers.{no-state, sizes-read, not-always, one-sizes}
-use Rattle.dictionary.proofs.Refusals.{check-between}
 
-pub find-unopened : (pages lists : Bytes) (a : Name) → headerOf (length pages) lists ≡ H.Unopened → FindPost pages lists a (FindAnswer.refused Unopened)
+pub find-unopened : (pages lists : Bytes) (a : Name) → headerOf (length pages) lists ≡ H.Unopened → FindPost pages lists a (FindAnswer.refused Unopened) pages lists
 find-unopened pages lists a e =
     record {
       unopened = λ u. refl;
       illegal = λ why h. inl refl;
-      bounded = refl;
+      bounded = λ c. refl;
+      kept = (refl, refl);
       whole = λ s st S. absurd (no-state pages lists e s st S);
     }
 
 module _ (pages lists : Bytes) (s : Sizes) (e : headerOf (length pages) lists ≡ H.Opened s) (a : Name) where
-  pub find-illegal : (why : Refusal) → checks s a ≡ some why → FindPost pages lists a (FindAnswer.refused why)
+  pub find-illegal : (why : Refusal) → checks s a ≡ some why → FindPost pages lists a (FindAnswer.refused why) pages lists
   find-illegal why i =
-      let b = between-facts 4 7 (refusalNumber why) (check-between s a why i) in
       record {
         unopened = λ u. absurd (not-always pages lists s e u);
         illegal = λ w h.
             let j : checks s a ≡ some w = rw (sizes-read pages lists s e) at h in
             let v : why ≡ w = cc in inr (ap FindAnswer.refused v);
-        bounded = facts-between 3 7 (refusalNumber why) (omega arith) (b .1);
+        bounded = λ c.
+            let j : checks s a ≡ none = rw (sizes-read pages lists s e) at c in
+            let z : _≡_ {A = ℕ} 0 1 = cc in absurd (omega arith);
+        kept = (refl, refl);
         whole = λ t st S. rw (one-sizes pages lists s e t st S, i);
       }
 
   module _ (legal : checks s a ≡ none) where
     -- Any answer in bounds that is right of each state.
-    find-legal : (r : FindAnswer) → FindBounded r → ((st : State) → Stands s st pages lists → r ≡ findBy (numberOf s st a)) → FindPost pages lists a r
+    find-legal : (r : FindAnswer) → FindBounded s r → ((st : State) → Stands s st pages lists → r ≡ findBy (numberOf s st a)) → FindPost pages lists a r pages lists
     find-legal r b f =
         record {
           unopened = λ u. absurd (not-always pages lists s e u);
           illegal = λ w h.
               let j : checks s a ≡ some w = rw (sizes-read pages lists s e) at h in
               let z : _≡_ {A = ℕ} 0 1 = cc in absurd (omega arith);
-          bounded = b;
+          bounded = λ c. rw (sizes-read pages lists s e) b;
+          kept = (refl, refl);
           whole = λ t st S.
               let q : t ≡ s = one-sizes pages lists s e t st S in
               let c : checks t a ≡ none = rw q legal in
@@ -82,23 +83,23 @@ module _ (pages lists : Bytes) (s : Sizes) (e : headerOf (length pages) lists �
       given : (st : State) → Stands s st pages lists → x .0 < st .blocks .next (a .kind)
       given st S = omega (arith, local-lt a (st .part (a .kind) .names) (x .0) (local-is x h st S), next-count S (a .kind))
 
-      pub find-known : (y : GlobalId) → Globals s lists (a .kind) (x .0) (N.Global y) → FindPost pages lists a (FindAnswer.known (y .0))
+      pub find-known : (y : GlobalId) → Globals s lists (a .kind) (x .0) (N.Global y) → FindPost pages lists a (FindAnswer.known (y .0)) pages lists
       unfolding numberOf
       find-known y g =
-          find-legal (FindAnswer.known (y .0)) tt
+          find-legal (FindAnswer.known (y .0)) (g .range)
           (λ st S.
           let u : N.Global y ≡ N.Global (record { 0 = global (s .w) (st .blocks) (a .kind) (x .0) }) = g .right (st .blocks) (S .blocked) (given st S) in
           let v : y ≡ record { 0 = global (s .w) (st .blocks) (a .kind) (x .0) } = cc in
           rw (local-is x h st S) (ap (λ (n : GlobalId). FindAnswer.known (n .0)) v))
 
-      pub find-bad-number : Globals s lists (a .kind) (x .0) N.Bad → FindPost pages lists a (FindAnswer.refused Unopened)
+      pub find-bad-number : Globals s lists (a .kind) (x .0) N.Bad → FindPost pages lists a (FindAnswer.refused Unopened) pages lists
       find-bad-number g =
           find-legal (FindAnswer.refused Unopened) refl
           (λ st S.
           let u : N.Bad ≡ N.Global (record { 0 = global (s .w) (st .blocks) (a .kind) (x .0) }) = g .right (st .blocks) (S .blocked) (given st S) in
           let z : _≡_ {A = ℕ} 0 1 = cc in absurd (omega arith))
 
-    pub find-none : FindsName s (λ b. b ≡ a) pages lists Nothing → FindPost pages lists a FindAnswer.absent
+    pub find-none : FindsName s (λ b. b ≡ a) pages lists Nothing → FindPost pages lists a FindAnswer.absent pages lists
     unfolding numberOf
     find-none h = find-legal FindAnswer.absent tt (λ st S. rw (go st (localOf a (st .part (a .kind) .names)) (h .right st a S legal refl)))
       where
@@ -106,7 +107,7 @@ module _ (pages lists : Bytes) (s : Sizes) (e : headerOf (length pages) lists �
         go st none q = refl
         go st (some i) q = let z : _≡_ {A = ℕ} 0 1 = cc in absurd (omega arith)
 
-    pub find-bad : FindsName s (λ b. b ≡ a) pages lists Bad → FindPost pages lists a (FindAnswer.refused Unopened)
+    pub find-bad : FindsName s (λ b. b ≡ a) pages lists Bad → FindPost pages lists a (FindAnswer.refused Unopened) pages lists
     find-bad h = find-legal (FindAnswer.refused Unopened) refl (λ st S. absurd (go (localOf a (st .part (a .kind) .names)) (h .right st a S legal refl)))
       where
         go : (o : Option ℕ) → Bad ≡ searchBy o → ⊥

@@ -1,6 +1,5 @@
 -- Laws that belong to no one function.
 pub mod Headers
-pub mod Refusals
 pub mod Opens
 pub mod Adds
 pub mod Finds

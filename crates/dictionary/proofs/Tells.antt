@@ -24,13 +24,14 @@ use Rattle.locate.specs.declared.Located.the-variants.{At, Nothing, Bad}
 use Rattle.locate.specs.Located.{piecesIn, Tells, LocatesName}
 use Rattle.dictionary.proofs.Headers.{no-state, not-always, one-sizes}
 
-pub read-unopened : (pages lists : Bytes) (number : ℕ) (x : Bytes) → headerOf (length pages) lists ≡ H.Unopened → ReadPost pages lists number x (ReadAnswer.refused Unopened) x
+pub read-unopened : (pages lists : Bytes) (number : ℕ) (x : Bytes) → headerOf (length pages) lists ≡ H.Unopened → ReadPost pages lists number x (ReadAnswer.refused Unopened) x pages lists
 read-unopened pages lists number x e =
     record {
       unopened = λ u. refl;
       bounded = inl refl;
       buffer-length = refl;
-      kept = λ f. refl;
+      kept = (refl, refl);
+      buffer-kept = λ f. refl;
       whole = λ s st S. absurd (no-state pages lists e s st S);
     }
 
@@ -43,13 +44,14 @@ module _ (pages lists : Bytes) (s : Sizes) (e : headerOf (length pages) lists �
       let q : t ≡ s = one-sizes pages lists s e t st S in
       rw q (f (nameOf s st number) (h st (rw q at S)))
 
-  pub read-none : LocatesName s pages lists number Nothing → ReadPost pages lists number x ReadAnswer.absent x
+  pub read-none : LocatesName s pages lists number Nothing → ReadPost pages lists number x ReadAnswer.absent x pages lists
   read-none h =
       record {
         unopened = λ u. absurd (not-always pages lists s e u);
         bounded = tt;
         buffer-length = refl;
-        kept = λ f. refl;
+        kept = (refl, refl);
+        buffer-kept = λ f. refl;
         whole = told ReadAnswer.absent x (λ o. Tells pages o Nothing) go (h .right);
       }
     where
@@ -57,13 +59,14 @@ module _ (pages lists : Bytes) (s : Sizes) (e : headerOf (length pages) lists �
       go none p = (refl, refl)
       go (some a) p = absurd p
 
-  pub read-bad : LocatesName s pages lists number Bad → ReadPost pages lists number x (ReadAnswer.refused Unopened) x
+  pub read-bad : LocatesName s pages lists number Bad → ReadPost pages lists number x (ReadAnswer.refused Unopened) x pages lists
   read-bad h =
       record {
         unopened = λ u. absurd (not-always pages lists s e u);
         bounded = inl refl;
         buffer-length = refl;
-        kept = λ f. refl;
+        kept = (refl, refl);
+        buffer-kept = λ f. refl;
         whole = told (ReadAnswer.refused Unopened) x (λ o. Tells pages o Bad) go (h .right);
       }
     where
@@ -72,13 +75,14 @@ module _ (pages lists : Bytes) (s : Sizes) (e : headerOf (length pages) lists �
       go (some a) p = absurd p
 
   module _ (q : Pieces) (h : LocatesName s pages lists number (At q)) where
-    pub read-short : length x < q .first + q .second → ReadPost pages lists number x (ReadAnswer.refused ShortBuffer) x
+    pub read-short : length x < q .first + q .second → ReadPost pages lists number x (ReadAnswer.refused ShortBuffer) x pages lists
     read-short l =
         record {
           unopened = λ u. absurd (not-always pages lists s e u);
           bounded = inr refl;
           buffer-length = refl;
-          kept = λ f. refl;
+          kept = (refl, refl);
+          buffer-kept = λ f. refl;
           whole = told (ReadAnswer.refused ShortBuffer) x (λ o. Tells pages o (At q)) go (h .right);
         }
       where
@@ -89,13 +93,14 @@ module _ (pages lists : Bytes) (s : Sizes) (e : headerOf (length pages) lists �
             rw (lt-leb (size a) (length x) t) (refl, refl)
 
     pub read-name : q .first + q .second ≤ length x → (y : Bytes) → y ≡ piecesIn pages q ++ drop (q .first + q .second) x
-        → ReadPost pages lists number x (ReadAnswer.name (q .kind) (q .first) (q .second)) y
+        → ReadPost pages lists number x (ReadAnswer.name (q .kind) (q .first) (q .second)) y pages lists
     read-name l y w =
         record {
           unopened = λ u. absurd (not-always pages lists s e u);
           bounded = (h .range .kinded, l, rw w (drop-at (piecesIn pages q) _ _ (h .range .lengths)));
           buffer-length = rw w (simp (length-append, length-drop) (omega (arith, h .range .lengths)));
-          kept = λ f. absurd (f _ _ _ refl);
+          kept = (refl, refl);
+          buffer-kept = λ f. absurd (f _ _ _ refl);
           whole = told (ReadAnswer.name (q .kind) (q .first) (q .second)) y (λ o. Tells pages o (At q)) go (h .right);
         }
       where

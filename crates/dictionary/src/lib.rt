@@ -88,7 +88,7 @@ pub fn add(
 
 // The number that a name has.
 pub fn find(pages: &[u8], lists: &[u8], kind: usize, first: &[u8], second: &[u8]) -> FindResult
-    ensures { λ r. ⌜ FindPost (now (pages .entry)) (now (lists .entry)) (entered kind (now (first .entry)) (now (second .entry))) (foundBy r) ⌝ }
+    ensures { λ r. ⌜ FindPost (now (pages .entry)) (now (lists .entry)) (entered kind (now (first .entry)) (now (second .entry))) (foundBy r) (now (pages .entry)) (now (lists .entry)) ⌝ }
 {
     let Header::Opened(s) = layout::check_header(pages, lists) else {
         return FindResult::Refused(Refusal::Unopened);
@@ -111,7 +111,7 @@ pub fn find(pages: &[u8], lists: &[u8], kind: usize, first: &[u8], second: &[u8]
 
 // The name that has a number: its parts at the buffer's start, one after the other.
 pub fn read(pages: &[u8], lists: &[u8], number: GlobalId, buffer: &mut [u8]) -> ReadResult
-    ensures { λ r. ⌜ ReadPost (now (pages .entry)) (now (lists .entry)) (number .0) (now (buffer .entry)) (toldBy r) (now (buffer .exit)) ⌝ }
+    ensures { λ r. ⌜ ReadPost (now (pages .entry)) (now (lists .entry)) (number .0) (now (buffer .entry)) (toldBy r) (now (buffer .exit)) (now (pages .entry)) (now (lists .entry)) ⌝ }
 {
     let Header::Opened(s) = layout::check_header(pages, lists) else {
         return ReadResult::Refused(Refusal::Unopened);
@@ -138,7 +138,7 @@ pub fn read(pages: &[u8], lists: &[u8], number: GlobalId, buffer: &mut [u8]) -> 
 
 // How many names of a kind there are.
 pub fn count(pages: &[u8], lists: &[u8], kind: usize) -> CountResult
-    ensures { λ r. ⌜ CountPost (now (pages .entry)) (now (lists .entry)) kind (countedBy r) ⌝ }
+    ensures { λ r. ⌜ CountPost (now (pages .entry)) (now (lists .entry)) kind (countedBy r) (now (pages .entry)) (now (lists .entry)) ⌝ }
 {
     let Header::Opened(s) = layout::check_header(pages, lists) else {
         return CountResult::Refused(Refusal::Unopened);

@@ -1,10 +1,13 @@
 -- What an add of one entry promises, from its search and its plan. Assumes nothing.
 use Prim.Native.Nat.{ℕ, _+_, _*_, _%_, _^_, _≤_, _<_}
 use mathlib.Core.Path.{_≡_, refl, sym, subst}
+use mathlib.Core.Logic.{inl}
 use mathlib.Core.Bool.{false}
 use mathlib.Core.Option.{none}
 use native.Mathlib.Omega.{arith}
+use native.Mathlib.Nat.{mod-lt}
 use lib.ListN.{length}
+use lib.Pow.{pow-pos, high}
 use Rattle.slices.specs.Bytes.{Bytes}
 use Rattle.refusals.specs.declared.Refusal.{Refusal}
 use Rattle.refusals.specs.declared.Refusal.the-variants.{Unopened}
@@ -22,7 +25,7 @@ use Rattle.model.specs.Kinds.{row}
 use Rattle.model.specs.State.{State}
 use Rattle.model.specs.Steps.{checks, newHead, keyOf, refuse, found, decide, addAnswer, afterAdd}
 use Rattle.memory.specs.Stands.{Stands}
-use Rattle.memory.specs.Promises.{AddBounded}
+use Rattle.memory.specs.Promises.{InBlocks, AddBounded}
 use Rattle.memory.proofs.Probes.{main-below, main-bad}
 use Rattle.memory.proofs.Counts.{next-count}
 use Rattle.memory.proofs.Beyond.{beyond-same, beyond-trans, insert-beyond, block-beyond}
@@ -34,6 +37,10 @@ use Rattle.enter.specs.declared.Planned.{Planned}
 use Rattle.enter.specs.declared.Planned.the-variants as P
 use Rattle.enter.specs.Answers.{addedBy, KnownBounded, Knows, ReadyEntry, NoEntry, full, pageless, blockless, PlanFits, Plans}
 use Rattle.enter.specs.Added.{Lent, Added, HasKey}
+
+-- A fresh number is in its block.
+pub fresh-in-blocks : (s : Sizes) (g n : ℕ) → g < s .b → InBlocks s (g * 2 ^ s .w + n % 2 ^ s .w)
+fresh-in-blocks s g n l = rw (high g (s .w) (mod-lt n (pow-pos (s .w)))) l
 
 -- ---- at a state, of a legal name with this key
 
@@ -80,13 +87,13 @@ module _ {s : Sizes} {st : State} {pages lists : Bytes} (S : Stands s st pages l
 
 module _ (s : Sizes) (pages lists : Bytes) (k : ℕ) (key : Bytes) (L : Lent s pages lists k) where
   -- Nothing is written.
-  same : (r : AddAnswer) → AddBounded r
+  same : (r : AddAnswer) → AddBounded s r
       → ((st : State) (a : Name) → Stands s st pages lists → checks s a ≡ none → HasKey k key st a → (r ≡ addAnswer s st a) × Stands s (afterAdd s st a) pages lists)
       → Added s (HasKey k key) pages lists r pages lists
   same r b w = record { bounded = b; kept = λ n. (refl, refl); beyond = beyond-same s pages lists; whole = w }
 
   pub added-foreign : Searched s (row k .mainAt) pages lists key Bad → Added s (HasKey k key) pages lists (AddAnswer.refused Unopened) pages lists
-  added-foreign q = same _ refl (λ st a S legal M. absurd (main-bad s st pages lists S k (L .kinded) key q))
+  added-foreign q = same _ (inl refl) (λ st a S legal M. absurd (main-bad s st pages lists S k (L .kinded) key q))
 
   pub added-known : (i : ℕ) (r : AddResult) → Searched s (row k .mainAt) pages lists key (At i) → Knows s lists k i r
       → Added s (HasKey k key) pages lists (addedBy r) pages lists
@@ -94,10 +101,10 @@ module _ (s : Sizes) (pages lists : Bytes) (k : ℕ) (key : Bytes) (L : Lent s p
       same (addedBy r) (bound r (H .bounded))
       (λ st a S legal M. let e = found-key S a legal M i q in rw (e .0) (H .right (st .blocks) (S .blocked) (e .1), S))
     where
-      bound : (x : AddResult) → KnownBounded x → AddBounded (addedBy x)
+      bound : (x : AddResult) → KnownBounded s x → AddBounded s (addedBy x)
       bound (Fresh x) h = absurd h
-      bound (Known x) h = tt
-      bound (Refused why) h = rw h
+      bound (Known x) h = h
+      bound (Refused why) h = inl h
 
   module _ (place : ℕ) (q : Searched s (row k .mainAt) pages lists key (Free place)) where
     -- The plan, for the length that was computed.
@@ -118,7 +125,7 @@ module _ (s : Sizes) (pages lists : Bytes) (k : ℕ) (key : Bytes) (L : Lent s p
         let B = insert-beyond s pages lists (row k .mainAt) (x .n) place (x .spot) (x .stamp) key (L .ranged) (L .pages-fit) (L .lists-fit) (main-below k) (F .number) (q .range) (F .room) in
         let fit : listBytes s ≤ length (listsAfter s lists (row k .mainAt) (x .n) place (x .spot) (x .stamp) (length key)) = omega (arith, B .lists-length, L .lists-fit) in
         record {
-          bounded = tt;
+          bounded = fresh-in-blocks s (x .g) (x .n) (F .block);
           kept = λ f. absurd (f _ refl);
           beyond = beyond-trans s _ _ _ _ _ _ B (block-beyond s _ _ k (x .n) (x .g) (L .ranged) fit (L .kinded) (F .local) (F .block));
           whole = λ st a S legal M. entered-key S a legal M place x F q (H .right pages st S);

@@ -69,17 +69,17 @@ module _ (s : Sizes) (lists : Bytes) (k len : ℕ) (l : k < kinds) where
   pub plans-uncounted : countIn s (countWord lists k) ≡ C.Bad → Plans s lists k len (P.Refused W.Unopened)
   plans-uncounted e =
       record {
-        bounded = refl;
+        bounded = inl refl;
         right = λ pages st S. let f : C.Bad ≡ C.Entries (length (st .part k .names)) = sym e ∙ main-counted S k l in let z : _≡_ {A = ℕ} 0 1 = cc in absurd (omega arith);
       }
 
   pub plans-full : (n : ℕ) → countIn s (countWord lists k) ≡ C.Entries n → s .e ≤ n → Plans s lists k len (P.Refused W.ListFull)
-  plans-full n e h = record { bounded = refl; right = λ pages st S. full (omega (arith, number-is S n e)) }
+  plans-full n e h = record { bounded = inr refl; right = λ pages st S. full (omega (arith, number-is S n e)) }
 
   pub plans-unpaged : lowestOf s (wordAt lists untakenAt) ≡ L.Bad → Plans s lists k len (P.Refused W.Unopened)
   plans-unpaged e =
       record {
-        bounded = refl;
+        bounded = inl refl;
         right = λ pages st S. let f : L.Bad ≡ L.Page (allPages (st .space)) = sym e ∙ lowest-is-known S in let z : _≡_ {A = ℕ} 0 1 = cc in absurd (omega arith);
       }
 
@@ -98,11 +98,11 @@ module _ (s : Sizes) (lists : Bytes) (k len : ℕ) (l : k < kinds) where
         go NoPage p e =
             let q : W.NoPage ≡ why = cc in
             subst (λ (x : Refusal). Plans s lists k len (P.Refused x)) q
-            (record { bounded = refl; right = λ pages st S. pageless (room-is S) (spot-is S u NoPage (F .lowest) p) })
+            (record { bounded = inr refl; right = λ pages st S. pageless (room-is S) (spot-is S u NoPage (F .lowest) p) })
         go Bad p e =
             let q : W.Unopened ≡ why = cc in
             subst (λ (x : Refusal). Plans s lists k len (P.Refused x)) q
-            (record { bounded = refl; right = λ pages st S. absurd (spot-known S (row k .mainAt) u len (main-below k) p) })
+            (record { bounded = inl refl; right = λ pages st S. absurd (spot-known S (row k .mainAt) u len (main-below k) p) })
 
     module _ (spotted : IsSpot spot) where
       -- What the block's search says of a state.
@@ -112,9 +112,9 @@ module _ (s : Sizes) (lists : Bytes) (k len : ℕ) (l : k < kinds) where
       pub plans-blockless : (why : Refusal) → Reserves s lists k n (R.Refused why) → Plans s lists k len (P.Refused why)
       plans-blockless why H = record { bounded = bound (H .bounded); right = λ pages st S. go S (stampOf (st .blocks)) (pick s (st .blocks) k) refl (reserved-is _ H S) }
         where
-          bound : (why ≡ W.Unopened) ⊎ (why ≡ W.NoBlock) → Between 3 10 why
-          bound (inl q) = rw q
-          bound (inr q) = rw q
+          bound : (why ≡ W.Unopened) ⊎ (why ≡ W.NoBlock) → (why ≡ W.Unopened) ⊎ Between 8 10 why
+          bound (inl q) = inl q
+          bound (inr q) = inr (rw q)
 
           go : {pages : Bytes} {st : State} (S : Stands s st pages lists) (t : ℕ) (o : Option ℕ) → pick s (st .blocks) k ≡ o → R.Refused why ≡ reservedBy t o → NoEntry s st lists k len why
           go {pages} {st} S t none p f =

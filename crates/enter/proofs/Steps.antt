@@ -27,7 +27,7 @@ use Rattle.meta_dv_dict.specs.declared.Number.the-variants as N
 use Rattle.meta_dv_dict.specs.declared.GlobalId.{GlobalId}
 use Rattle.meta_dv_dict.specs.Blocks.{Blocks, global, pick}
 use Rattle.meta_dv_dict.specs.Tables.{BlocksAt}
-use Rattle.meta_dv_dict.specs.Answers.{allocated, Allocates, Globals}
+use Rattle.meta_dv_dict.specs.Answers.{allocated, Allocates, NumberBelow, Globals}
 use Rattle.model.specs.Answers.{AddAnswer}
 use Rattle.model.specs.Kinds.{row}
 use Rattle.model.specs.State.{State, stampOf}
@@ -54,7 +54,7 @@ module _ (s : Sizes) (lists : Bytes) (k i n : ℕ) (r : Number) (G : Globals s l
   pub knows-number : (x : GlobalId) → r ≡ N.Global x → Knows s lists k i (Known x)
   knows-number x e =
       record {
-        bounded = tt;
+        bounded = subst (NumberBelow (s .w) (s .b)) e (G .range);
         right = λ b B l.
             let f : N.Global x ≡ N.Global (record { 0 = global (s .w) b k i }) = sym e ∙ same-number b B l in
             let q : x ≡ record { 0 = global (s .w) b k i } = cc in
@@ -107,7 +107,7 @@ stamps-sum s lists t l e =
 
 -- ---- the block and the stamp
 
--- No block was answered: none is left, or the memory is no dictionary's.
+-- No block was answered: the rule picks none, or the memory is no dictionary's.
 pub reserves-none : (s : Sizes) (lists : Bytes) (k n : ℕ) (r : Allocated) → Allocates s lists k n r → (tagOf the-type r ≡ 1) ⊎ (tagOf the-type r ≡ 2)
     → Reserves s lists k n (blockRefused r)
 reserves-none s lists k n (A.Block g) G (inl e) = absurd (omega arith)

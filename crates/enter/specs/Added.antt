@@ -15,7 +15,7 @@ use Rattle.memory.specs.Promises.{SameBeyond, AddBounded}
 
 -- `Means st a`: at the state st the arguments stand for the name a.
 pub record Added (s : Sizes) (Means : State → Name → Type 0) (pages lists : Bytes) (r : AddAnswer) (pages′ lists′ : Bytes) : Type 0 where
-  pub bounded : AddBounded r
+  pub bounded : AddBounded s r
   pub kept : ((n : ℕ) → ¬ (r ≡ AddAnswer.fresh n)) → (pages′ ≡ pages) × (lists′ ≡ lists)
   pub beyond : SameBeyond s pages lists pages′ lists′
   pub whole : (st : State) (a : Name) → Stands s st pages lists → checks s a ≡ none → Means st a → (r ≡ addAnswer s st a) × Stands s (afterAdd s st a) pages′ lists′

@@ -24,7 +24,7 @@ use Rattle.model.specs.Answers.{AddAnswer}
 use Rattle.model.specs.Kinds.{row}
 use Rattle.model.specs.State.{State, stampOf}
 use Rattle.memory.specs.Stands.{Stands}
-use Rattle.memory.specs.Promises.{Between}
+use Rattle.memory.specs.Promises.{Between, InBlocks}
 use Rattle.enter.specs.declared.AddResult.{AddResult}
 use Rattle.enter.specs.declared.AddResult.the-variants.{Fresh, Known, Refused}
 use Rattle.enter.specs.declared.Stamp.{Stamp}
@@ -86,7 +86,7 @@ pub record ReadyEntry (s : Sizes) (st : State) (lists : Bytes) (k len : ℕ) (x 
   pub block : pick s (st .blocks) k ≡ some (x .g)
   pub stamp : x .stamp ≡ stampOf (st .blocks)
 
--- Why there is no plan: the list is full; no page is left; no block is left.
+-- Why there is no plan: the list is full; no page is left; the rule picks no block.
 pub data NoEntry (s : Sizes) (st : State) (lists : Bytes) (k len : ℕ) : Refusal → Type 0 where
   full : s .e ≤ length (st .part k .names) → NoEntry s st lists k len W.ListFull
   pageless : length (st .part k .names) < s .e → spotIn s (wordAt lists) (row k .mainAt) (allPages (st .space)) len ≡ NoPage → NoEntry s st lists k len W.NoPage
@@ -109,7 +109,7 @@ pub record PlanFits (s : Sizes) (len : ℕ) (x : Plan) : Type 0 where
 
 abbrev pub PlanBounded : Sizes → ℕ → Planned → Type 0
 PlanBounded s len (P.Ready x) = PlanFits s len x
-PlanBounded s len (P.Refused why) = Between 3 10 why
+PlanBounded s len (P.Refused why) = (why ≡ W.Unopened) ⊎ Between 8 10 why
 
 pub record Plans (s : Sizes) (lists : Bytes) (k len : ℕ) (r : Planned) : Type 0 where
   pub bounded : PlanBounded s len r
@@ -117,11 +117,11 @@ pub record Plans (s : Sizes) (lists : Bytes) (k len : ℕ) (r : Planned) : Type 
 
 -- ---- a name that is there: entry i of the kind k
 
-abbrev pub KnownBounded : AddResult → Type 0
-KnownBounded (Fresh x) = ⊥
-KnownBounded (Known x) = Unit {0}
-KnownBounded (Refused why) = why ≡ W.Unopened
+abbrev pub KnownBounded : Sizes → AddResult → Type 0
+KnownBounded s (Fresh x) = ⊥
+KnownBounded s (Known x) = InBlocks s (x .0)
+KnownBounded s (Refused why) = why ≡ W.Unopened
 
 pub record Knows (s : Sizes) (lists : Bytes) (k i : ℕ) (r : AddResult) : Type 0 where
-  pub bounded : KnownBounded r
+  pub bounded : KnownBounded s r
   pub right : (b : Blocks) → BlocksAt s b lists → i < b .next k → addedBy r ≡ AddAnswer.known (global (s .w) b k i)

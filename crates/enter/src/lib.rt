@@ -1,4 +1,4 @@
-// An add of a legal name: everything is decided, then everything is written. The memory may be anybody's.
+// An add of one entry to a kind's names: everything is decided, then everything is written. The memory may be anybody's.
 use bytes_buffer::Lowest;
 use bytes_buffer::Spot;
 use bytes_dictionary::Counted;

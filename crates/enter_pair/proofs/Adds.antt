@@ -40,9 +40,10 @@ use Rattle.memory.proofs.Counts.{head-counted, next-count}
 use Rattle.memory.proofs.Beyond.{beyond-same, beyond-trans, insert-beyond, block-beyond}
 use Rattle.memory.proofs.Entered.{key-new, head-missing, full-both, pageless-both, blockless-both, enter-both}
 use Rattle.enter.specs.Added.{Lent, IsPair, Added, HasKey, HasPair}
+use Rattle.enter.proofs.Adds.{fresh-in-blocks}
 use Rattle.enter_pair.specs.declared.PairPlan.{PairPlan}
 use Rattle.enter_pair.specs.declared.PairPlanned.the-variants as P
-use Rattle.enter_pair.specs.Plans.{ReadyPair, NoPair, full, pageless, blockless, PlanFits, PlansPair, pairPages, pairLists}
+use Rattle.enter_pair.specs.Plans.{ReadyPair, NoPair, full, pageless, blockless, PairPlanFits, PlansPair, pairPages, pairLists}
 use Rattle.enter_pair.proofs.Means.{same-names}
 
 -- The word of the count of a kind's heads.
@@ -85,7 +86,7 @@ module _ {s : Sizes} {st : State} {pages lists : Bytes} (S : Stands s st pages l
       go w (blockless n m i j b) = blockless-both S a legal own-new (omega (arith, heads-are)) n _ refl _ refl i j b
 
   -- The memory after the writes of the plan.
-  own-entered : {size len : ℕ} (place : ℕ) (x : PairPlan) → PlanFits s h size len x
+  own-entered : {size len : ℕ} (place : ℕ) (x : PairPlan) → PairPlanFits s h size len x
       → Searched s (row (a .kind) .mainAt) pages lists (fid h ++ row (a .kind) .rest a) (Free place)
       → ReadyPair s st lists (a .kind) (length (headOf a)) (length (fid h ++ row (a .kind) .rest a)) x
       → (AddAnswer.fresh (x .g * 2 ^ s .w + x .n % 2 ^ s .w) ≡ addAnswer s st a)
@@ -128,7 +129,7 @@ module _ (s : Sizes) (pages lists : Bytes) (k : ℕ) (head rest : Bytes) (L : Le
       (subst (λ (x : Bytes). P k x (row k .rest a)) (M .headed) (subst (λ (j : ℕ). P j (row j .head a) (row j .rest a)) (M .kinded) p))
 
   -- Nothing is written.
-  same : (r : AddAnswer) → AddBounded r
+  same : (r : AddAnswer) → AddBounded s r
       → ((st : State) (a : Name) → Stands s st pages lists → checks s a ≡ none → HasPair k head rest st a → (r ≡ addAnswer s st a) × Stands s (afterAdd s st a) pages lists)
       → Added s (HasPair k head rest) pages lists r pages lists
   same r b w = record { bounded = b; kept = λ n. (refl, refl); beyond = beyond-same s pages lists; whole = w }
@@ -136,7 +137,7 @@ module _ (s : Sizes) (pages lists : Bytes) (k : ℕ) (head rest : Bytes) (L : Le
   -- What never happens on memory that stands for a state.
   pub never : ((st : State) (a : Name) → Stands s st pages lists → checks s a ≡ none → HasPair k head rest st a → ⊥)
       → Added s (HasPair k head rest) pages lists (AddAnswer.refused Unopened) pages lists
-  never f = same _ refl (λ st a S legal M. absurd (f st a S legal M))
+  never f = same _ (inl refl) (λ st a S legal M. absurd (f st a S legal M))
 
   pub pair-foreign : Searched s (row k .headsAt) pages lists head Bad → Added s (HasPair k head rest) pages lists (AddAnswer.refused Unopened) pages lists
   pair-foreign q = never (λ st a S legal M. head-bad s st pages lists S k (L .kinded) head pair q)
@@ -218,7 +219,7 @@ module _ (s : Sizes) (pages lists : Bytes) (k : ℕ) (head rest : Bytes) (L : Le
           (F .room) in
           let fit : listBytes s ≤ length lists₂ = omega (arith, B .lists-length, lists-fit) in
           record {
-            bounded = tt;
+            bounded = fresh-in-blocks s (x .g) (x .n) (F .block);
             kept = λ f. absurd (f _ refl);
             beyond = beyond-trans s _ _ _ _ _ _ A
                 (beyond-trans s _ _ _ _ _ _ B (block-beyond s _ _ k (x .n) (x .g) (L .ranged) fit (L .kinded) (F .local) (F .block)));

@@ -52,12 +52,12 @@ module _ (s : Sizes) (lists : Bytes) (k h size len : ℕ) (l : k < kinds) where
   pub plans-uncounted : countIn s (countWord lists k) ≡ C.Bad → PlansPair s lists k h size len (P.Refused W.Unopened)
   plans-uncounted e =
       record {
-        bounded = refl;
+        bounded = inl refl;
         right = λ pages st S. let f : C.Bad ≡ C.Entries (length (st .part k .names)) = sym e ∙ main-counted S k l in let z : _≡_ {A = ℕ} 0 1 = cc in absurd (omega arith);
       }
 
   pub plans-full : (n : ℕ) → countIn s (countWord lists k) ≡ C.Entries n → (s .e ≤ n) ⊎ (s .e ≤ h) → PlansPair s lists k h size len (P.Refused W.ListFull)
-  plans-full n e o = record { bounded = refl; right = λ pages st S. full (go (number-is S n e) o) }
+  plans-full n e o = record { bounded = inr refl; right = λ pages st S. full (go (number-is S n e) o) }
     where
       go : {m : ℕ} → n ≡ m → (s .e ≤ n) ⊎ (s .e ≤ h) → (s .e ≤ m) ⊎ (s .e ≤ h)
       go q (inl g) = inl (omega arith)
@@ -66,7 +66,7 @@ module _ (s : Sizes) (lists : Bytes) (k h size len : ℕ) (l : k < kinds) where
   pub plans-unpaged : lowestOf s (wordAt lists untakenAt) ≡ L.Bad → PlansPair s lists k h size len (P.Refused W.Unopened)
   plans-unpaged e =
       record {
-        bounded = refl;
+        bounded = inl refl;
         right = λ pages st S. let f : L.Bad ≡ L.Page (allPages (st .space)) = sym e ∙ lowest-is-known S in let z : _≡_ {A = ℕ} 0 1 = cc in absurd (omega arith);
       }
 
@@ -92,11 +92,11 @@ module _ (s : Sizes) (lists : Bytes) (k h size len : ℕ) (l : k < kinds) where
           go NoPage p e =
               let q : W.NoPage ≡ why = cc in
               subst (λ (x : Refusal). PlansPair s lists k h size len (P.Refused x)) q
-              (record { bounded = refl; right = λ pages st S. pageless (room-is S) (F .head-room) (inl (head-is S ∙ p)) })
+              (record { bounded = inr refl; right = λ pages st S. pageless (room-is S) (F .head-room) (inl (head-is S ∙ p)) })
           go Bad p e =
               let q : W.Unopened ≡ why = cc in
               subst (λ (x : Refusal). PlansPair s lists k h size len (P.Refused x)) q
-              (record { bounded = refl; right = λ pages st S. absurd (spot-known S (row k .headsAt) u size (head-below k) (hplanned ∙ p)) })
+              (record { bounded = inl refl; right = λ pages st S. absurd (spot-known S (row k .headsAt) u size (head-below k) (hplanned ∙ p)) })
 
       -- ---- and then the pair's
 
@@ -119,11 +119,11 @@ module _ (s : Sizes) (lists : Bytes) (k h size len : ℕ) (l : k < kinds) where
             go NoPage p e =
                 let q : W.NoPage ≡ why = cc in
                 subst (λ (x : Refusal). PlansPair s lists k h size len (P.Refused x)) q
-                (record { bounded = refl; right = λ pages st S. pageless (room-is S) (F .head-room) (inr (head-spotted S, pair-is S ∙ p)) })
+                (record { bounded = inr refl; right = λ pages st S. pageless (room-is S) (F .head-room) (inr (head-spotted S, pair-is S ∙ p)) })
             go Bad p e =
                 let q : W.Unopened ≡ why = cc in
                 subst (λ (x : Refusal). PlansPair s lists k h size len (P.Refused x)) q
-                (record { bounded = refl; right = λ pages st S. absurd (spot-known S (row k .mainAt) (untakenAfter u hspot) len (main-below k) (planned ∙ p)) })
+                (record { bounded = inl refl; right = λ pages st S. absurd (spot-known S (row k .mainAt) (untakenAfter u hspot) len (main-below k) (planned ∙ p)) })
 
         -- ---- and then the block is chosen
 
@@ -139,9 +139,9 @@ module _ (s : Sizes) (lists : Bytes) (k h size len : ℕ) (l : k < kinds) where
           plans-blockless why H =
               record { bounded = bound (H .bounded); right = λ pages st S. go S (stampOf (st .blocks)) (pick s (st .blocks) k) refl (reserved-is _ H S) }
             where
-              bound : (why ≡ W.Unopened) ⊎ (why ≡ W.NoBlock) → Between 3 10 why
-              bound (inl q) = rw q
-              bound (inr q) = rw q
+              bound : (why ≡ W.Unopened) ⊎ (why ≡ W.NoBlock) → (why ≡ W.Unopened) ⊎ Between 8 10 why
+              bound (inl q) = inl q
+              bound (inr q) = inr (rw q)
 
               go : {pages : Bytes} {st : State} (S : Stands s st pages lists) (t : ℕ) (o : Option ℕ) → pick s (st .blocks) k ≡ o → R.Refused why ≡ reservedBy t o
                   → NoPair s st lists k h size len why

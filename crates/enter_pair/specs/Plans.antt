@@ -39,7 +39,7 @@ pub record ReadyPair (s : Sizes) (st : State) (lists : Bytes) (k size len : ℕ)
   pub block : pick s (st .blocks) k ≡ some (x .g)
   pub stamp : x .stamp ≡ stampOf (st .blocks)
 
--- Why there is no plan, the head being number h: a list is full; a page too few is left; no block is left.
+-- Why there is no plan, the head being number h: a list is full; a page too few is left; the rule picks no block.
 pub data NoPair (s : Sizes) (st : State) (lists : Bytes) (k h size len : ℕ) : Refusal → Type 0 where
   full : (s .e ≤ length (st .part k .names)) ⊎ (s .e ≤ h) → NoPair s st lists k h size len W.ListFull
   pageless : length (st .part k .names) < s .e → h < s .e
@@ -49,12 +49,12 @@ pub data NoPair (s : Sizes) (st : State) (lists : Bytes) (k h size len : ℕ) : 
       → pick s (st .blocks) k ≡ none
       → NoPair s st lists k h size len W.NoBlock
 
-abbrev pub PlanSays : Sizes → State → Bytes → ℕ → ℕ → ℕ → ℕ → PairPlanned → Type 0
-PlanSays s st lists k h size len (Ready x) = ReadyPair s st lists k size len x
-PlanSays s st lists k h size len (Refused why) = NoPair s st lists k h size len why
+abbrev pub PairPlanSays : Sizes → State → Bytes → ℕ → ℕ → ℕ → ℕ → PairPlanned → Type 0
+PairPlanSays s st lists k h size len (Ready x) = ReadyPair s st lists k size len x
+PairPlanSays s st lists k h size len (Refused why) = NoPair s st lists k h size len why
 
 -- What every memory's plan has.
-pub record PlanFits (s : Sizes) (h size len : ℕ) (x : PairPlan) : Type 0 where
+pub record PairPlanFits (s : Sizes) (h size len : ℕ) (x : PairPlan) : Type 0 where
   pub heads : h < s .e
   pub number : x .n < s .e
   pub head-spotted : IsSpot (x .head)
@@ -65,13 +65,13 @@ pub record PlanFits (s : Sizes) (h size len : ℕ) (x : PairPlan) : Type 0 where
   pub local : x .n / 2 ^ s .w < s .b
   pub stamp : x .stamp ≤ 4 * s .e
 
-abbrev pub PlanBounded : Sizes → ℕ → ℕ → ℕ → PairPlanned → Type 0
-PlanBounded s h size len (Ready x) = PlanFits s h size len x
-PlanBounded s h size len (Refused why) = Between 3 10 why
+abbrev pub PairPlanBounded : Sizes → ℕ → ℕ → ℕ → PairPlanned → Type 0
+PairPlanBounded s h size len (Ready x) = PairPlanFits s h size len x
+PairPlanBounded s h size len (Refused why) = (why ≡ W.Unopened) ⊎ Between 8 10 why
 
 pub record PlansPair (s : Sizes) (lists : Bytes) (k h size len : ℕ) (r : PairPlanned) : Type 0 where
-  pub bounded : PlanBounded s h size len r
-  pub right : (pages : Bytes) (st : State) → Stands s st pages lists → PlanSays s st lists k h size len r
+  pub bounded : PairPlanBounded s h size len r
+  pub right : (pages : Bytes) (st : State) → Stands s st pages lists → PairPlanSays s st lists k h size len r
 
 -- ---- the memory after both were written
 

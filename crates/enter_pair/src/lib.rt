@@ -22,6 +22,7 @@ ghost use mathlib.Core.List.{[], _++_};
 ghost use mathlib.Core.Option.{none};
 ghost use Prim.Native.Nat.{_+_, _*_, _%_, _^_, _≤_, _<_};
 ghost use lib.ListN.{length};
+ghost use Rattle.limits.specs.Limits.{nameLimit};
 ghost use Rattle.layout.specs.Sizes.{InRange, kinds, listBytes};
 ghost use Rattle.bytes_index.specs.Search.{Searched};
 ghost use Rattle.bytes_index.specs.declared.Probe.the-variants.{Free};
@@ -31,7 +32,7 @@ ghost use Rattle.model.specs.Kinds.{row};
 ghost use Rattle.model.specs.Steps.{checks};
 ghost use Rattle.enter.specs.Answers.{addedBy};
 ghost use Rattle.enter.specs.Added.{Lent, Added, HasPair};
-ghost use Rattle.enter_pair.specs.Plans.{PlansPair, PlanFits, pairPages, pairLists};
+ghost use Rattle.enter_pair.specs.Plans.{PlansPair, PairPlanFits, pairPages, pairLists};
 
 // What an add of a head and its pair writes: the pair's number, both spots, the block and the stamp.
 struct PairPlan {
@@ -98,7 +99,7 @@ fn commit_pair(
     rest: &[u8],
 ) -> AddResult
     requires { ⌜ Lent s (now pages) (now lists) k × (row k .paired ≡ true) × (headplace < 2 * s .e) × (place < 2 * s .e) ⌝ }
-    requires { ⌜ PlanFits s h (length (now head)) (length (now lead ++ now rest)) x ⌝ }
+    requires { ⌜ PairPlanFits s h (length (now head)) (length (now lead ++ now rest)) x ⌝ }
     ensures answer { λ r. ⌜ addedBy r ≡ AddAnswer.fresh (x .g * 2 ^ s .w + x .n % 2 ^ s .w) ⌝ }
     ensures pages { λ _. ⌜ now (pages .exit) ≡ pairPages s (now (pages .entry)) x (now (head .entry)) (now (lead .entry) ++ now (rest .entry)) ⌝ }
     ensures lists { λ _. ⌜ now (lists .exit) ≡ pairLists s (now (lists .entry)) k h headplace place x (length (now (head .entry))) (length (now (lead .entry) ++ now (rest .entry))) ⌝ }
@@ -153,7 +154,7 @@ fn add_both(
     head: &[u8],
     rest: &[u8],
 ) -> AddResult
-    requires { ⌜ Lent s (now pages) (now lists) k × (row k .paired ≡ true) × (length (now head) + length (now rest) ≤ 4000) ⌝ }
+    requires { ⌜ Lent s (now pages) (now lists) k × (row k .paired ≡ true) × (length (now head) + length (now rest) ≤ nameLimit) ⌝ }
     requires { ⌜ Searched s (row k .headsAt) (now pages) (now lists) (now head) (Free headplace) ⌝ }
     ensures { λ r. ⌜ Added s (HasPair k (now (head .entry)) (now (rest .entry))) (now (pages .entry)) (now (lists .entry)) (addedBy r) (now (pages .exit)) (now (lists .exit)) ⌝ }
 {
@@ -205,7 +206,7 @@ fn add_pair(
     head: &[u8],
     rest: &[u8],
 ) -> AddResult
-    requires { ⌜ Lent s (now pages) (now lists) k × (row k .paired ≡ true) × (length (now head) + length (now rest) ≤ 4000) ⌝ }
+    requires { ⌜ Lent s (now pages) (now lists) k × (row k .paired ≡ true) × (length (now head) + length (now rest) ≤ nameLimit) ⌝ }
     ensures { λ r. ⌜ Added s (HasPair k (now (head .entry)) (now (rest .entry))) (now (pages .entry)) (now (lists .entry)) (addedBy r) (now (pages .exit)) (now (lists .exit)) ⌝ }
 {
     match search::find_head(pages, lists, s, k, head) {
@@ -222,7 +223,7 @@ fn add_pair(
 }
 
 fn add_iri(pages: &mut [u8], lists: &mut [u8], s: Sizes, iri: &[u8]) -> AddResult
-    requires { ⌜ Lent s (now pages) (now lists) 0 × (length (now iri) ≤ 4000) ⌝ }
+    requires { ⌜ Lent s (now pages) (now lists) 0 × (length (now iri) ≤ nameLimit) ⌝ }
     ensures { λ r. ⌜ Added s (λ st a. a ≡ entered 0 (now (iri .entry)) []) (now (pages .entry)) (now (lists .entry)) (addedBy r) (now (pages .exit)) (now (lists .exit)) ⌝ }
 {
     let Head::Length(n) = ranked_pair_iri_dv_dict::rfind_hashslash_plus(iri) else {
@@ -232,7 +233,7 @@ fn add_iri(pages: &mut [u8], lists: &mut [u8], s: Sizes, iri: &[u8]) -> AddResul
 }
 
 fn add_tagged(pages: &mut [u8], lists: &mut [u8], s: Sizes, text: &[u8], tag: &[u8]) -> AddResult
-    requires { ⌜ Lent s (now pages) (now lists) 2 × (length (now text) + length (now tag) ≤ 4000) ⌝ }
+    requires { ⌜ Lent s (now pages) (now lists) 2 × (length (now text) + length (now tag) ≤ nameLimit) ⌝ }
     ensures { λ r. ⌜ Added s (λ st a. a ≡ entered 2 (now (text .entry)) (now (tag .entry))) (now (pages .entry)) (now (lists .entry)) (addedBy r) (now (pages .exit)) (now (lists .exit)) ⌝ }
 {
     let front = [names::tag_front(tag)];

@@ -18,11 +18,15 @@ use Rattle.memory.specs.Lists.{Memory, Called, Calls}
 abbrev Holds : Sizes → State → Memory → Type 0
 Holds s st m = Stands s st (m .pages) (m .lists)
 
+-- Memory with the same bytes is the same.
+same : (m z : Memory) → (z .pages ≡ m .pages) × (z .lists ≡ m .lists) → z ≡ m
+same m z e = λ i. record { pages = e .0 i; lists = e .1 i }
+
 step : (m z : Memory) (e : Event) → Called m e z → Step Memory Holds m e z
 step m z (add a r) c = c .whole
-step m z (find a r) c = (c .0 .whole, c .1)
-step m z (read n x r y) c = (c .0 .whole, c .1)
-step m z (count k r) c = (c .0 .whole, c .1)
+step m z (find a r) c = (c .whole, same m z (c .kept))
+step m z (read n x r y) c = (c .whole, same m z (c .kept))
+step m z (count k r) c = (c .whole, same m z (c .kept))
 
 runs : (m z : Memory) (es : List Event) → Calls m es z → Runs Memory Holds m es z
 runs m z [] c = c

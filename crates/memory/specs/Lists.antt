@@ -13,9 +13,9 @@ pub record Memory : Type 0 where
 -- One call: the memory before, the call with its answer, the memory after.
 abbrev pub Called : Memory → Event → Memory → Type 0
 Called m (add a r) m′ = AddPost (m .pages) (m .lists) a r (m′ .pages) (m′ .lists)
-Called m (find a r) m′ = FindPost (m .pages) (m .lists) a r × (m′ ≡ m)
-Called m (read n x r y) m′ = ReadPost (m .pages) (m .lists) n x r y × (m′ ≡ m)
-Called m (count k r) m′ = CountPost (m .pages) (m .lists) k r × (m′ ≡ m)
+Called m (find a r) m′ = FindPost (m .pages) (m .lists) a r (m′ .pages) (m′ .lists)
+Called m (read n x r y) m′ = ReadPost (m .pages) (m .lists) n x r y (m′ .pages) (m′ .lists)
+Called m (count k r) m′ = CountPost (m .pages) (m .lists) k r (m′ .pages) (m′ .lists)
 
 -- From m the calls of the list, newest first, leave z.
 abbrev pub Calls : Memory → List Event → Memory → Type 0

@@ -1,9 +1,10 @@
--- What each entry promises of its answer and of all lent bytes afterwards, whatever memory is lent. Assumes nothing.
-use Prim.Native.Nat.{ℕ, _+_, _<_, _≤_}
+-- What each entry promises of its answer and of all lent bytes afterwards, whatever memory is lent. Where an entry borrows a slice for reading only, its
+-- bytes afterwards are those before. Assumes nothing.
+use Prim.Native.Nat.{ℕ, _+_, _/_, _^_, _<_, _≤_}
 use mathlib.Core.Path.{_≡_}
 use mathlib.Core.Bool.{true}
 use mathlib.Core.Logic.{_⊎_}
-use mathlib.Core.Option.{some}
+use mathlib.Core.Option.{none, some}
 use lib.ListN.{length, drop}
 use Rattle.slices.specs.Bytes.{Bytes}
 use Rattle.slices.specs.Ranges.{within}
@@ -30,6 +31,10 @@ pub record SameBeyond (s : Sizes) (pages lists pages′ lists′ : Bytes) : Type
 abbrev pub Between : ℕ → ℕ → Refusal → Type 0
 Between lo hi why = within lo hi (numberOf why) ≡ true
 
+-- A number in one of the blocks that the sizes have.
+abbrev pub InBlocks : Sizes → ℕ → Type 0
+InBlocks s n = n / 2 ^ s .w < s .b
+
 -- ---- open
 
 pub record OpenPost (s : Sizes) (pages lists : Bytes) (r : OpenAnswer) (pages′ lists′ : Bytes) : Type 0 where
@@ -42,16 +47,18 @@ pub record OpenPost (s : Sizes) (pages lists : Bytes) (r : OpenAnswer) (pages′
 
 -- ---- add
 
-abbrev pub AddBounded : AddAnswer → Type 0
-AddBounded (AddAnswer.refused why) = Between 3 10 why
-AddBounded (AddAnswer.fresh n) = Unit {0}
-AddBounded (AddAnswer.known n) = Unit {0}
+-- What a legal name gets, whatever the memory was.
+abbrev pub AddBounded : Sizes → AddAnswer → Type 0
+AddBounded s (AddAnswer.refused why) = (why ≡ Unopened) ⊎ Between 8 10 why
+AddBounded s (AddAnswer.fresh n) = InBlocks s n
+AddBounded s (AddAnswer.known n) = InBlocks s n
 
 pub record AddPost (pages lists : Bytes) (a : Name) (r : AddAnswer) (pages′ lists′ : Bytes) : Type 0 where
   pub unopened : AlwaysUnopened pages lists → r ≡ AddAnswer.refused Unopened
-  -- On any memory an illegal name gets its own refusal, or 3.
+  -- On any memory an illegal name gets its own refusal, or 3;
   pub illegal : (why : Refusal) → checks (sizesIn lists) a ≡ some why → (r ≡ AddAnswer.refused Unopened) ⊎ (r ≡ AddAnswer.refused why)
-  pub bounded : AddBounded r
+  -- and a legal one a bounded answer.
+  pub bounded : checks (sizesIn lists) a ≡ none → AddBounded (sizesIn lists) r
   -- Only a fresh name is written.
   pub kept : ((n : ℕ) → ¬ (r ≡ AddAnswer.fresh n)) → (pages′ ≡ pages) × (lists′ ≡ lists)
   pub beyond : SameBeyond (sizesIn lists) pages lists pages′ lists′
@@ -59,15 +66,16 @@ pub record AddPost (pages lists : Bytes) (a : Name) (r : AddAnswer) (pages′ li
 
 -- ---- find
 
-abbrev pub FindBounded : FindAnswer → Type 0
-FindBounded (FindAnswer.refused why) = Between 3 7 why
-FindBounded (FindAnswer.known n) = Unit {0}
-FindBounded FindAnswer.absent = Unit {0}
+abbrev pub FindBounded : Sizes → FindAnswer → Type 0
+FindBounded s (FindAnswer.refused why) = why ≡ Unopened
+FindBounded s (FindAnswer.known n) = InBlocks s n
+FindBounded s FindAnswer.absent = Unit {0}
 
-pub record FindPost (pages lists : Bytes) (a : Name) (r : FindAnswer) : Type 0 where
+pub record FindPost (pages lists : Bytes) (a : Name) (r : FindAnswer) (pages′ lists′ : Bytes) : Type 0 where
   pub unopened : AlwaysUnopened pages lists → r ≡ FindAnswer.refused Unopened
   pub illegal : (why : Refusal) → checks (sizesIn lists) a ≡ some why → (r ≡ FindAnswer.refused Unopened) ⊎ (r ≡ FindAnswer.refused why)
-  pub bounded : FindBounded r
+  pub bounded : checks (sizesIn lists) a ≡ none → FindBounded (sizesIn lists) r
+  pub kept : (pages′ ≡ pages) × (lists′ ≡ lists)
   pub whole : (s : Sizes) (st : State) → Stands s st pages lists → r ≡ findAnswer s st a
 
 -- ---- read
@@ -79,22 +87,24 @@ ReadBounded x y (ReadAnswer.name k m n) = (k < kinds) × (m + n ≤ length x) ×
 ReadBounded x y ReadAnswer.absent = Unit {0}
 
 -- The buffer was x and is y.
-pub record ReadPost (pages lists : Bytes) (number : ℕ) (x : Bytes) (r : ReadAnswer) (y : Bytes) : Type 0 where
+pub record ReadPost (pages lists : Bytes) (number : ℕ) (x : Bytes) (r : ReadAnswer) (y pages′ lists′ : Bytes) : Type 0 where
   pub unopened : AlwaysUnopened pages lists → r ≡ ReadAnswer.refused Unopened
   pub bounded : ReadBounded x y r
+  pub kept : (pages′ ≡ pages) × (lists′ ≡ lists)
   pub buffer-length : length y ≡ length x
-  -- Only a name is written.
-  pub kept : ((k m n : ℕ) → ¬ (r ≡ ReadAnswer.name k m n)) → y ≡ x
+  -- Only a name is written into the buffer.
+  pub buffer-kept : ((k m n : ℕ) → ¬ (r ≡ ReadAnswer.name k m n)) → y ≡ x
   pub whole : (s : Sizes) (st : State) → Stands s st pages lists → (r ≡ readAnswer s st number x) × (y ≡ readBuffer s st number x)
 
 -- ---- count
 
-abbrev pub CountBounded : CountAnswer → Type 0
-CountBounded (CountAnswer.refused why) = (why ≡ Unopened) ⊎ (why ≡ BadKind)
-CountBounded (CountAnswer.count n) = Unit {0}
+abbrev pub CountBounded : Sizes → CountAnswer → Type 0
+CountBounded s (CountAnswer.refused why) = why ≡ Unopened
+CountBounded s (CountAnswer.count n) = n ≤ s .e
 
-pub record CountPost (pages lists : Bytes) (kind : ℕ) (r : CountAnswer) : Type 0 where
+pub record CountPost (pages lists : Bytes) (kind : ℕ) (r : CountAnswer) (pages′ lists′ : Bytes) : Type 0 where
   pub unopened : AlwaysUnopened pages lists → r ≡ CountAnswer.refused Unopened
   pub illegal : kinds ≤ kind → (r ≡ CountAnswer.refused Unopened) ⊎ (r ≡ CountAnswer.refused BadKind)
-  pub bounded : CountBounded r
+  pub bounded : kind < kinds → CountBounded (sizesIn lists) r
+  pub kept : (pages′ ≡ pages) × (lists′ ≡ lists)
   pub whole : (s : Sizes) (st : State) → Stands s st pages lists → r ≡ countAnswer st kind

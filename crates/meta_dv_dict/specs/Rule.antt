@@ -57,6 +57,6 @@ abbrev pub numberIn : Sizes → ℕ → Option ℕ → Option ℕ
 numberIn s n none = none
 numberIn s n (some g) = some (g * 2 ^ s .w + n % 2 ^ s .w)
 
--- The number that a fresh name of the kind k gets after fresh names of the kinds ks, newest first; none: no block is left.
+-- The number that a fresh name of the kind k gets after fresh names of the kinds ks, newest first; none: no block is free from where the search starts.
 unfoldable pub blockRule : Sizes → List ℕ → ℕ → Option ℕ
 blockRule s ks k = numberIn s (howMany k (granted s ks)) (blockFor s (granted s ks) k (howMany k (granted s ks)))

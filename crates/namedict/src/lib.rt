@@ -310,7 +310,7 @@ pub extern "C" fn namedict_find(
     first: &[u8],
     second: &[u8],
 ) -> NamedictNumbered
-    ensures { λ r. ⌜ ((x : FindAnswer) × (r ≡ findNumbers x) × FindPost (now (pages .entry)) (now (lists .entry)) (entered kind (now (first .entry)) (now (second .entry))) x) ⌝ }
+    ensures { λ r. ⌜ ((x : FindAnswer) × (r ≡ findNumbers x) × FindPost (now (pages .entry)) (now (lists .entry)) (entered kind (now (first .entry)) (now (second .entry))) x (now (pages .entry)) (now (lists .entry))) ⌝ }
 {
     found(dictionary::find(pages, lists, kind as usize, first, second))
 }
@@ -323,7 +323,7 @@ pub extern "C" fn namedict_read(
     number: u64,
     buffer: &mut [u8],
 ) -> NamedictName
-    ensures { λ r. ⌜ ((x : ReadAnswer) × (r ≡ nameNumbers x) × ReadPost (now (pages .entry)) (now (lists .entry)) number (now (buffer .entry)) x (now (buffer .exit))) ⌝ }
+    ensures { λ r. ⌜ ((x : ReadAnswer) × (r ≡ nameNumbers x) × ReadPost (now (pages .entry)) (now (lists .entry)) number (now (buffer .entry)) x (now (buffer .exit)) (now (pages .entry)) (now (lists .entry))) ⌝ }
 {
     told(dictionary::read(pages, lists, GlobalId(number as usize), buffer))
 }
@@ -331,7 +331,7 @@ pub extern "C" fn namedict_read(
 // How many names of a kind there are.
 #[no_mangle]
 pub extern "C" fn namedict_count(pages: &[u8], lists: &[u8], kind: u64) -> NamedictCounted
-    ensures { λ r. ⌜ ((x : CountAnswer) × (r ≡ countNumbers x) × CountPost (now (pages .entry)) (now (lists .entry)) kind x) ⌝ }
+    ensures { λ r. ⌜ ((x : CountAnswer) × (r ≡ countNumbers x) × CountPost (now (pages .entry)) (now (lists .entry)) kind x (now (pages .entry)) (now (lists .entry))) ⌝ }
 {
     counted(dictionary::count(pages, lists, kind as usize))
 }

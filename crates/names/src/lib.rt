@@ -75,7 +75,7 @@ fn is_bad_kind(kind: usize, second: &[u8]) -> bool
     second.len() != 0
 }
 
-// Refusals 4 to 7 of a name. The limit of a name's length belongs to the sizes.
+// Refusals 4 to 7 of a name. The sizes are there for a limit that depends on them; none does today.
 pub fn check_name(s: Sizes, kind: usize, first: &[u8], second: &[u8]) -> Checked
     ensures { λ r. ⌜ r ≡ checkedBy (checks s (entered kind (now (first .entry)) (now (second .entry)))) ⌝ }
 {

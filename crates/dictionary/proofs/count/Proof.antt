@@ -45,7 +45,7 @@ returns c =
 returns-2 : tie.Need-returns-2
 returns-2 c =
     let a = c .before .before .before .before .before .before .before .args in
-    count-bad-kind (a .pages .now) (a .lists .now) (c .before .before .s .given .0 .0) (opened (c .before .before)) (a .kind) (c .if1 .taken)
+    count-bad-kind (a .pages .now) (a .lists .now) (c .before .before .s .given .0 .0) (opened (c .before .before)) (a .kind) (omega (arith, c .if1 .taken))
 
 main-dictionary-requires : tie.Need-main-dictionary-requires
 main-dictionary-requires c κs = search needs

@@ -1,6 +1,7 @@
 -- The search and the blocks say what find answers, once the header and the name are checked. Assumes nothing.
 use mathlib.Core.Path.{_≡_, sym, subst, _∙_}
 use mathlib.Core.Option.{none}
+use native.Mathlib.Omega.{arith}
 use lib.ListN.{length}
 use Rattle.layout.specs.declared.Header.the-variants.{Opened}
 use Rattle.layout.specs.Header.{headerOf}
@@ -90,7 +91,7 @@ enum-known-local c = search needs
 local-to-global-requires : tie.Need-local-to-global-requires
 local-to-global-requires c κs =
     let l = lent (c .before .before .before .before) in
-    (l .ranged, l .lists-fit, l .kinded)
+    (l .ranged, l .lists-fit, omega (arith, l .kinded))
 
 enum-known-number : tie.Need-enum-known-number
 enum-known-number c = search needs

@@ -65,7 +65,7 @@ add-if1 c =
 returns-2 : tie.Need-returns-2
 returns-2 c =
     let a = c .before .before .before .before .before .before .before .before .before .before .before .before .args in
-    read-short (a .pages .now) (a .lists .now) (c .before .before .before .before .before .before .s .given .0 .0) (opened (c .before .before .before .before .before .before)) (a .number .0) (a .buffer .now) _ (located (c .before .before)) (c .if1 .taken)
+    read-short (a .pages .now) (a .lists .now) (c .before .before .before .before .before .before .s .given .0 .0) (opened (c .before .before .before .before .before .before)) (a .number .0) (a .buffer .now) _ (located (c .before .before)) (omega (arith, c .if1 .taken))
 
 copy-name-requires : tie.Need-copy-name-requires
 copy-name-requires c κs =

@@ -6,6 +6,7 @@ use native.Mathlib.Omega.{arith}
 use lib.ListN.{length, take, length-append}
 use lib.Seq.{length-take-le}
 use Rattle.slices.specs.Bytes.{Bytes}
+use Rattle.limits.specs.Limits.{nameLimit}
 use Rattle.parts.specs.declared.Mode.the-variants.{Raw}
 use Rattle.ranked_pair_dictionary.specs.FrequentId.{fid}
 use Rattle.bytes_index.specs.Search.{keyOf, Searched}
@@ -16,7 +17,7 @@ use Rattle.bytes_dictionary.proofs.Reading.{counted-by}
 use Rattle.model.specs.Kinds.{row}
 use Rattle.search.proofs.Leads.{lead-short, lead-length, never-refused, lead-key}
 use Rattle.enter_pair.specs.declared.PairPlanned.the-variants as P
-use Rattle.enter_pair.specs.Plans.{PlanFits, PlansPair}
+use Rattle.enter_pair.specs.Plans.{PairPlanFits, PlansPair}
 use Rattle.enter_pair.proofs.Writes.{raw-key}
 use Rattle.enter_pair.proofs.Adds.{headWord, counted-head, both-uncounted, both-searched, both-refused, both-calls}
 use borrow.Author.Needs.{needs}
@@ -69,6 +70,7 @@ lead-rest c = sym (raw-key (take (c .m .given .0 .0) (c .before .before .before 
 sized : (c : tie.After-m) →
     let rest = entered (numbered c) .args .rest .now in
     (c .m .given .0 .0 + length rest ≡ length (fid (numbered c .h .given .0 .0) ++ rest)) × (c .m .given .0 .0 + length rest ≤ 4004)
+unfolding nameLimit
 sized c =
     let h = numbered c in
     let z = entered h in
@@ -204,6 +206,7 @@ add-plan-pair c =
     omega (arith, sized (c .before .before .before .before .before .before .before .before .before .before .before))
 
 plan-pair-requires : tie.Need-plan-pair-requires
+unfolding nameLimit
 plan-pair-requires c κs =
     let m = c .before .before .before .before .before .before .before .before .before .before .before in
     let p = entered (numbered m) .pre .0 in
@@ -230,7 +233,7 @@ commit-pair-requires c κs =
     let a = z .args in
     let L = z .pre .0 .0 in (
       (record { ranged = L .ranged; pages-fit = L .pages-fit; lists-fit = L .lists-fit; kinded = L .kinded }, z .pre .0 .1, z .pre .1 .range, free o .range),
-      subst (λ y. PlanFits (a .s) (numbered m .h .given .0 .0) (length (a .head .now)) (length y) (x .x .given .0 .0)) (sym (lead-rest m)) (ready x .bounded),
+      subst (λ y. PairPlanFits (a .s) (numbered m .h .given .0 .0) (length (a .head .now)) (length y) (x .x .given .0 .0)) (sym (lead-rest m)) (ready x .bounded),
     )
 
 enum-known-why : tie.Need-enum-known-why

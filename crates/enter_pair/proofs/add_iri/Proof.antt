@@ -6,6 +6,7 @@ use native.Mathlib.Omega.{arith}
 use lib.ListN.{length, take, drop, length-drop}
 use lib.Seq.{take-all, length-take-le}
 use Rattle.slices.specs.Bytes.{Bytes}
+use Rattle.limits.specs.Limits.{nameLimit}
 use Rattle.ranked_pair_iri_dv_dict.specs.declared.Head.{Head}
 use Rattle.ranked_pair_iri_dv_dict.specs.Split.{headLength, headOf, lengthOf}
 use Rattle.ranked_pair_iri_dv_dict.proofs.Laws.{head-le, head-length}
@@ -28,7 +29,7 @@ is-split : (iri rest : Bytes) (n : ℕ) → n ≡ headLength iri → rest ≡ dr
 is-split iri rest n e r st a m = rw (r, m, e) (record { kinded = refl; headed = refl; rested = refl })
 
 -- Both parts are as long as the IRI.
-parts-short : (iri : Bytes) (n : ℕ) → n ≤ length iri → length iri ≤ 4000 → length (take n iri) + length (take (length iri - n) (drop n iri)) ≤ 4000
+parts-short : (iri : Bytes) (n : ℕ) → n ≤ length iri → length iri ≤ nameLimit → length (take n iri) + length (take (length iri - n) (drop n iri)) ≤ nameLimit
 parts-short iri n l h = rw (to-the-end iri n) (omega (arith, length-take-le n iri l, length-drop n iri))
 
 length-n : (c : tie.After-n) → c .n .given .0 .0 ≡ headLength (c .before .before .before .before .before .before .args .iri .now)

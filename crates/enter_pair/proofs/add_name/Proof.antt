@@ -29,8 +29,7 @@ other-kind s pages lists k j L e = subst (Lent s pages lists) e L
 
 -- What the arguments of a legal name of each kind stand for.
 module _ (s : Sizes) (k : ℕ) (first second : Bytes) (e : checks s (entered k first second) ≡ none) where
-  sized : length first + length second ≤ 4000
-  unfolding nameLimit
+  sized : length first + length second ≤ nameLimit
   sized = legal s (entered k first second) e .size
 
   no-second : row k .noSecond ≡ true → second ≡ []
@@ -43,6 +42,7 @@ module _ (s : Sizes) (k : ℕ) (first second : Bytes) (e : checks s (entered k f
       rw n
 
   plain-short : k ≡ 1 → length (keyOf second Raw second first) ≤ 8192
+  unfolding nameLimit
   plain-short z = subst (λ (x : Bytes). length x ≤ 8192) (plain-key z) (omega (arith, sized))
 
   module _ (st : State) (a : Name) (m : a ≡ entered k first second) where

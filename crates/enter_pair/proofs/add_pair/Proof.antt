@@ -6,6 +6,7 @@ use native.Mathlib.Omega.{arith}
 use lib.ListN.{length, take, length-append}
 use lib.Seq.{length-take-le}
 use Rattle.slices.specs.Bytes.{Bytes}
+use Rattle.limits.specs.Limits.{nameLimit}
 use Rattle.parts.specs.declared.Mode.the-variants.{Raw}
 use Rattle.ranked_pair_dictionary.specs.FrequentId.{fid}
 use Rattle.bytes_index.specs.Search.{keyOf, Searched}
@@ -61,6 +62,7 @@ key-at c =
 key-short : (c : tie.After-m) →
     let a = entered (numbered c) .args in
     length (keyOf (take (c .m .given .0 .0) (c .before .before .before .write-frequent-id .last .1 .0)) Raw [] (a .rest .now)) ≤ 8192
+unfolding nameLimit
 key-short c =
     let f = numbered c in
     let z = entered f in

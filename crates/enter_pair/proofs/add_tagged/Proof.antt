@@ -5,6 +5,7 @@ use mathlib.Core.List.{[], _∷_}
 use native.Mathlib.Omega.{arith}
 use lib.ListN.{length, length-append}
 use Rattle.slices.specs.Bytes.{Bytes}
+use Rattle.limits.specs.Limits.{nameLimit}
 use Rattle.parts.specs.declared.Mode.{Mode}
 use Rattle.parts.specs.declared.Mode.the-variants.{Raw, Escaped, Closed}
 use Rattle.parts.specs.Parts.{escaped, bytesOf}
@@ -42,6 +43,7 @@ tag-mode-requires c κs = search needs
 
 -- The length alone does not tell the tag from the text.
 add-str-requires : tie.Need-add-str-requires
+unfolding nameLimit
 add-str-requires c κs =
     let z = c .before .before .before .before .before .before .before .before .before in
     let L = z .pre .0 in
