@@ -1,23 +1,18 @@
 -- What the calls that write a head and its pair leave of both slices. Assumes nothing.
 use Prim.Native.Nat.{ℕ}
 use mathlib.Core.Path.{_≡_, ap, _∙_}
-use mathlib.Core.List.{[], _++_, append-nil}
+use mathlib.Core.List.{[], _++_}
 use lib.ListN.{length}
 use Rattle.slices.specs.Bytes.{Bytes}
 use Rattle.parts.specs.declared.Mode.the-variants.{Raw}
-use Rattle.parts.specs.Parts.{bytesOf}
 use Rattle.layout.specs.declared.Sizes.{Sizes}
 use Rattle.bytes_index.specs.Search.{keyOf}
 use Rattle.bytes_dictionary.specs.Written.{pagesAfter, listsAfter}
 use Rattle.meta_dv_dict.specs.Answers.{written}
 use Rattle.model.specs.Kinds.{row}
+pub use Rattle.search.proofs.Leads.{raw-key}
 use Rattle.enter_pair.specs.declared.PairPlan.{PairPlan}
 use Rattle.enter_pair.specs.Plans.{pairPages, pairLists}
-
--- A key of two parts, with no tag between them.
-pub raw-key : (front rest : Bytes) → keyOf front Raw [] rest ≡ front ++ rest
-unfolding bytesOf
-raw-key front rest = rw append-nil
 
 pub both-pages : (s : Sizes) (pages : Bytes) (x : PairPlan) (head lead rest pages₁ pages₂ : Bytes) → pages₁ ≡ pagesAfter s pages (x .head) (keyOf [] Raw [] head)
     → pages₂ ≡ pagesAfter s pages₁ (x .pair) (keyOf lead Raw [] rest)

@@ -17,7 +17,7 @@ use Rattle.refusals.specs.Written.{writtenBy}
 use Rattle.ranked_pair_dictionary.specs.FrequentId.{fid, writeRefusal, writeAnswer, writeBuffer}
 use Rattle.ranked_pair_dictionary.proofs.Laws.{further-le, length-fid, write-done}
 
-raw-key : (front rest : Bytes) → keyOf front Raw [] rest ≡ front ++ rest
+pub raw-key : (front rest : Bytes) → keyOf front Raw [] rest ≡ front ++ rest
 unfolding bytesOf
 raw-key front rest = rw append-nil
 

@@ -13,20 +13,11 @@ use Rattle.ranked_pair_iri_dv_dict.proofs.Laws.{head-le, head-length}
 use Rattle.model.specs.Names.{Name, entered}
 use Rattle.model.specs.State.{State}
 use Rattle.enter.specs.Added.{HasPair}
+use Rattle.search.proofs.Splits.{split-at, to-the-end, is-split}
 use Rattle.enter_pair.proofs.Means.{same-names}
 use borrow.Author.Needs.{needs}
 use Rattle.enter_pair.proofs.add_iri.Statement.{statement}
 use Rattle.enter_pair.proofs.add_iri.Tie as tie
-
--- The answer h says how long the head is.
-split-at : (iri : Bytes) (h : Head) → h ≡ headOf iri → lengthOf h ≡ headLength iri
-split-at iri h e = ap lengthOf e ∙ head-length iri
-
-to-the-end : (iri : Bytes) (n : ℕ) → take (length iri - n) (drop n iri) ≡ drop n iri
-to-the-end iri n = take-all (length iri - n) (drop n iri) (simp length-drop (omega arith))
-
-is-split : (iri rest : Bytes) (n : ℕ) → n ≡ headLength iri → rest ≡ drop n iri → (st : State) (a : Name) → a ≡ entered 0 iri [] → HasPair 0 (take n iri) rest st a
-is-split iri rest n e r st a m = rw (r, m, e) (record { kinded = refl; headed = refl; rested = refl })
 
 -- Both parts are as long as the IRI.
 parts-short : (iri : Bytes) (n : ℕ) → n ≤ length iri → length iri ≤ nameLimit → length (take n iri) + length (take (length iri - n) (drop n iri)) ≤ nameLimit
@@ -69,7 +60,7 @@ returns c =
     let a = r .before .before .before .before .args in
     let n : 0 ≡ headLength (a .iri .now) =
     ap lengthOf (sym (t .enum-told .given .1)) ∙ split-at (a .iri .now) (r .rfind-hashslash-plus .result) (r .rfind-hashslash-plus .ensures) in
-    same-names (a .s) (a .pages .now) (a .lists .now) _ _ _ _ _ (λ st x S legal m. is-split (a .iri .now) (a .iri .now) 0 n refl st x m) (e .add-pair .ensures)
+    same-names (a .s) (a .pages .now) (a .lists .now) _ _ _ _ _ (λ st x S legal m. is-split (a .iri .now) (a .iri .now) 0 n refl x m) (e .add-pair .ensures)
 
 slice-aggregate-add-pair-2 : tie.Need-slice-aggregate-add-pair-2
 slice-aggregate-add-pair-2 c =
@@ -105,7 +96,7 @@ returns-2 c =
     let n = e .before .before .before .before .before .before in
     let a = n .before .before .before .before .before .before .args in
     same-names (a .s) (a .pages .now) (a .lists .now) _ _ _ _ _
-    (λ st x S legal m. is-split (a .iri .now) _ (n .n .given .0 .0) (length-n n) (to-the-end (a .iri .now) (n .n .given .0 .0)) st x m)
+    (λ st x S legal m. is-split (a .iri .now) _ (n .n .given .0 .0) (length-n n) (to-the-end (a .iri .now) (n .n .given .0 .0)) x m)
     (e .add-pair2 .ensures)
 
 pub add-iri-spec : {M : Type 1} → statement M

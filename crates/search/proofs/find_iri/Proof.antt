@@ -12,19 +12,10 @@ use Rattle.ranked_pair_iri_dv_dict.specs.Split.{headLength, headOf, lengthOf}
 use Rattle.ranked_pair_iri_dv_dict.proofs.Laws.{head-le, head-length}
 use Rattle.model.specs.Names.{Name, entered}
 use Rattle.search.specs.Found.{IsPair}
+use Rattle.search.proofs.Splits.{split-at, to-the-end, is-split}
 use Rattle.search.proofs.Finds.{same-names}
 use Rattle.search.proofs.find_iri.Statement.{statement}
 use Rattle.search.proofs.find_iri.Tie as tie
-
--- The answer h says how long the head is.
-split-at : (iri : Bytes) (h : Head) → h ≡ headOf iri → lengthOf h ≡ headLength iri
-split-at iri h e = ap lengthOf e ∙ head-length iri
-
-to-the-end : (iri : Bytes) (n : ℕ) → take (length iri - n) (drop n iri) ≡ drop n iri
-to-the-end iri n = take-all (length iri - n) (drop n iri) (simp length-drop (omega arith))
-
-is-split : (iri rest : Bytes) (n : ℕ) → n ≡ headLength iri → rest ≡ drop n iri → (a : Name) → a ≡ entered 0 iri [] → IsPair 0 (take n iri) rest a
-is-split iri rest n e r a m = rw (r, m, e) (record { kinded = refl; headed = refl; rested = refl })
 
 length-n : (c : tie.After-head) →
     let r = c .before .before in
