@@ -4,15 +4,12 @@ use mathlib.Core.Path.{_≡_, refl, sym, ap, _∙_}
 use mathlib.Core.List.{[]}
 use native.Mathlib.Omega.{arith}
 use lib.ListN.{length, take, drop, length-drop}
-use lib.Seq.{take-all, length-take-le}
+use lib.Seq.{length-take-le}
 use Rattle.slices.specs.Bytes.{Bytes}
 use Rattle.limits.specs.Limits.{nameLimit}
-use Rattle.ranked_pair_iri_dv_dict.specs.declared.Head.{Head}
-use Rattle.ranked_pair_iri_dv_dict.specs.Split.{headLength, headOf, lengthOf}
-use Rattle.ranked_pair_iri_dv_dict.proofs.Laws.{head-le, head-length}
-use Rattle.model.specs.Names.{Name, entered}
+use Rattle.ranked_pair_iri_dv_dict.specs.Split.{headLength, lengthOf}
+use Rattle.ranked_pair_iri_dv_dict.proofs.Laws.{head-le}
 use Rattle.model.specs.State.{State}
-use Rattle.enter.specs.Added.{HasPair}
 use Rattle.search.proofs.Splits.{split-at, to-the-end, is-split}
 use Rattle.enter_pair.proofs.Means.{same-names}
 use borrow.Author.Needs.{needs}

@@ -4,14 +4,11 @@ use mathlib.Core.Path.{_≡_, refl, sym, ap, _∙_}
 use mathlib.Core.List.{[]}
 use native.Mathlib.Omega.{arith}
 use borrow.Author.Needs.{needs}
-use lib.ListN.{length, take, drop, length-drop}
-use lib.Seq.{take-all, length-take-le}
+use lib.ListN.{length, take, drop}
+use lib.Seq.{length-take-le}
 use Rattle.slices.specs.Bytes.{Bytes}
-use Rattle.ranked_pair_iri_dv_dict.specs.declared.Head.{Head}
-use Rattle.ranked_pair_iri_dv_dict.specs.Split.{headLength, headOf, lengthOf}
-use Rattle.ranked_pair_iri_dv_dict.proofs.Laws.{head-le, head-length}
-use Rattle.model.specs.Names.{Name, entered}
-use Rattle.search.specs.Found.{IsPair}
+use Rattle.ranked_pair_iri_dv_dict.specs.Split.{headLength, lengthOf}
+use Rattle.ranked_pair_iri_dv_dict.proofs.Laws.{head-le}
 use Rattle.search.proofs.Splits.{split-at, to-the-end, is-split}
 use Rattle.search.proofs.Finds.{same-names}
 use Rattle.search.proofs.find_iri.Statement.{statement}
