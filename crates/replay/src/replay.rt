@@ -1,0 +1,184 @@
+// A line is a call with its answer: + add, ? find, < read, # count; the kind; f fresh, k known, n a name, - none; the number in four
+// hexadecimal digits and a space; the first part, '|', the second part. Of a read the number is given, and the name is the answer.
+use namedict::NamedictNumbered;
+ghost use Prim.Native.Nat.{_≤_};
+ghost use lib.ListN.{length};
+
+// The memory of each list: page width 13, 8 pages, lists of 120, blocks of 16, 64 blocks.
+pub type Pages = [u8; 65536];
+
+pub type Lists = [u8; 20416];
+
+fn digit(b: u8) -> u64
+    ensures { λ r. ⌜ r ≤ 255 ⌝ }
+{
+    if b >= b'a' {
+        return (b - b'a') as u64 + 10;
+    }
+    if b >= b'0' {
+        return (b - b'0') as u64;
+    }
+    0
+}
+
+// Where the mark is, from i on; the length if it is not there.
+fn end_of(s: &[u8], i: usize, mark: u8) -> usize
+    requires { ⌜ i ≤ length (now s) ⌝ }
+    ensures { λ r. ⌜ (i ≤ r) × (r ≤ length (now (s .entry))) ⌝ }
+{
+    let mut k = i;
+    while k < s.len() {
+        if s[k] == mark {
+            return k;
+        }
+        k += 1;
+    }
+    k
+}
+
+// Whether the part stands in s from `at` on.
+fn stands(s: &[u8], at: usize, part: &[u8]) -> bool {
+    if at > s.len() {
+        return false;
+    }
+    if part.len() > s.len() - at {
+        return false;
+    }
+    let mut k = 0;
+    while k < part.len() {
+        if s[at + k] != part[k] {
+            return false;
+        }
+        k += 1;
+    }
+    true
+}
+
+fn numbered(r: NamedictNumbered, word: u8, number: u64) -> bool {
+    let w = if word == b'f' {
+        1
+    } else if word == b'k' {
+        2
+    } else {
+        0
+    };
+    r.refusal == 0 && r.word == w && r.number == number
+}
+
+fn read(
+    kind: u64,
+    word: u8,
+    number: u64,
+    first: &[u8],
+    second: &[u8],
+    pages: &[u8],
+    lists: &[u8],
+) -> bool {
+    let mut buffer = [0xAAu8; 300];
+    let r = namedict::namedict_read(pages, lists, number, &mut buffer);
+    if word == b'-' {
+        return r.refusal == 0 && r.word == 0;
+    }
+    if r.refusal != 0 || r.word != 4 || r.kind != kind {
+        return false;
+    }
+    if r.first_len != first.len() as u64 || r.second_len != second.len() as u64 {
+        return false;
+    }
+    stands(&buffer, 0, first) && stands(&buffer, first.len(), second)
+}
+
+fn call(
+    op: u8,
+    kind: u64,
+    word: u8,
+    number: u64,
+    first: &[u8],
+    second: &[u8],
+    pages: &mut [u8],
+    lists: &mut [u8],
+) -> bool {
+    if op == b'+' {
+        return numbered(
+            namedict::namedict_add(pages, lists, kind, first, second),
+            word,
+            number,
+        );
+    }
+    if op == b'?' {
+        return numbered(
+            namedict::namedict_find(pages, lists, kind, first, second),
+            word,
+            number,
+        );
+    }
+    if op == b'#' {
+        let r = namedict::namedict_count(pages, lists, kind);
+        return r.refusal == 0 && r.count == number;
+    }
+    read(kind, word, number, first, second, pages, lists)
+}
+
+// Whether the call of the line has the answer of the line.
+fn line(s: &[u8], pages: &mut [u8], lists: &mut [u8]) -> bool {
+    if s.len() < 8 {
+        return false;
+    }
+    let border = end_of(s, 8, b'|');
+    if border >= s.len() {
+        return false;
+    }
+    let number = ((digit(s[3]) * 16 + digit(s[4])) * 16 + digit(s[5])) * 16 + digit(s[6]);
+    call(
+        s[0],
+        digit(s[1]),
+        s[2],
+        number,
+        &s[8..border],
+        &s[border + 1..],
+        pages,
+        lists,
+    )
+}
+
+// How many of this line differ: 0, or 1 and it is printed.
+fn differing(s: &[u8], pages: &mut [u8], lists: &mut [u8]) -> usize
+    ensures { λ r. ⌜ r ≤ 1 ⌝ }
+{
+    if line(s, pages, lists) {
+        return 0;
+    }
+    io::write_all(1, b"differs: ");
+    io::write_all(1, s);
+    io::write_all(1, b"\n");
+    1
+}
+
+fn ended(name: &[u8], done: usize, wrong: usize) {
+    io::write_all(1, name);
+    io::write_all(1, b": ");
+    io::print_decimal(1, done as u64);
+    io::write_all(1, b" calls, ");
+    io::print_decimal(1, wrong as u64);
+    io::write_all(1, b" differ\n");
+}
+
+// Runs the lines, and prints how many there are and each that differs.
+pub fn run(name: &[u8], calls: &[u8], pages: &mut [u8], lists: &mut [u8]) {
+    let mut i = 0;
+    let mut done = 0;
+    let mut wrong = 0;
+    while i < calls.len() {
+        let end = end_of(calls, i, b'\n');
+        wrong += differing(&calls[i..end], pages, lists);
+        done += 1;
+        i = end + 1;
+    }
+    ended(name, done, wrong);
+}
+
+pub fn open(pages: &Pages, lists: &mut Lists) {
+    if namedict::namedict_open(pages, lists, 13, 8, 120, 4, 64) != 0 {
+        io::write_all(1, b"not opened\n");
+    }
+}

@@ -1,0 +1,244 @@
+//! Prints the stored list: calls with the original's answers alone, as the source of the program replay.
+//! A line is a call: + add, ? find, < read, # count; the kind; f fresh, k known, n a name, - none; the number in
+//! four hexadecimal digits; a space; the first part, '|', the second part. Of a read the number is given, and the name is the answer.
+use crate::random::Random;
+use crate::theirs;
+
+struct List {
+    book: Box<dyn theirs::Book>,
+    lines: Vec<Vec<u8>>,
+}
+
+impl List {
+    fn new() -> List {
+        List { book: theirs::book(4), lines: Vec::new() }
+    }
+
+    fn line(&mut self, call: char, kind: usize, word: char, number: u64, first: &str, second: &str) {
+        assert!(number < 65_536 && !first.contains(['|', '\n']) && !second.contains(['|', '\n']));
+        self.lines.push(format!("{call}{kind}{word}{number:04x} {first}|{second}\n").into_bytes());
+    }
+
+    fn add(&mut self, kind: usize, first: &str, second: &str) -> u64 {
+        let (fresh, number) = self.book.add(kind, first, second);
+        self.line('+', kind, if fresh { 'f' } else { 'k' }, number, first, second);
+        number
+    }
+
+    fn find(&mut self, kind: usize, first: &str, second: &str) {
+        match self.book.find(kind, first, second) {
+            Some(number) => self.line('?', kind, 'k', number, first, second),
+            None => self.line('?', kind, '-', 0, first, second),
+        }
+    }
+
+    /// A long tag comes escaped from the original; such a name is not read here.
+    fn read(&mut self, number: u64) {
+        match self.book.read(number) {
+            Some((0, head, rest)) => self.line('<', 0, 'n', number, &(head + &rest), ""),
+            Some((2, form, _)) => {
+                let (text, tag) = theirs::unpack(&form).unwrap();
+                if !(form.starts_with('\0') && tag.contains('\\')) {
+                    self.line('<', 2, 'n', number, &text, &tag);
+                }
+            }
+            Some((kind, first, second)) => self.line('<', kind, 'n', number, &first, &second),
+            None => self.line('<', 0, '-', number, "", ""),
+        }
+    }
+
+    fn counts(&mut self) {
+        for kind in 0..4 {
+            let count = self.book.count(kind);
+            self.line('#', kind, 'n', count, "", "");
+        }
+    }
+
+    /// Pieces of at most a thousand bytes, since larger ones take the prover longer.
+    fn pieces(&self) -> Vec<&[Vec<u8>]> {
+        let mut pieces = Vec::new();
+        let (mut from, mut room) = (0, 1000);
+        for (n, line) in self.lines.iter().enumerate() {
+            if room < line.len() {
+                pieces.push(&self.lines[from..n]);
+                (from, room) = (n, 1000);
+            }
+            room -= line.len();
+        }
+        pieces.push(&self.lines[from..]);
+        pieces
+    }
+
+    fn print(&self, name: &str, note: &str) {
+        let pieces = self.pieces();
+        let count = self.lines.len();
+        for (n, piece) in pieces.iter().enumerate() {
+            println!("\nfn {name}_{}(pages: &mut Pages, lists: &mut Lists) {{", n + 1);
+            println!("    replay::run(\n        b\"{name} {}\",\n        b\"{}\",\n        pages,\n        lists,\n    );\n}}", n + 1, wrapped(piece));
+        }
+        println!("\n// {note} {count} calls.");
+        println!("pub fn {name}(pages: &mut Pages, lists: &mut Lists) {{\n    replay::open(pages, lists);");
+        for n in 1..=pieces.len() {
+            println!("    {name}_{n}(pages, lists);");
+        }
+        println!("}}");
+    }
+}
+
+/// Several calls to a line of the source.
+fn wrapped(piece: &[Vec<u8>]) -> String {
+    let mut all = String::new();
+    let mut width = 0;
+    for line in piece {
+        let text = escaped(line);
+        if width > 0 && width + text.len() > 120 {
+            all += "\\\n        ";
+            width = 0;
+        }
+        width += text.len();
+        all += &text;
+    }
+    all
+}
+
+fn escaped(bytes: &[u8]) -> String {
+    bytes.iter().map(|b| match b {
+        b'\n' => "\\n".to_string(),
+        b'\\' => "\\\\".to_string(),
+        b'"' => "\\\"".to_string(),
+        b' '..=b'~' => (*b as char).to_string(),
+        _ => format!("\\x{b:02x}"),
+    }).collect()
+}
+
+/// The kinds in turns of several lengths, so that their blocks lie between one another and some are skipped; every third number read.
+fn blocks() -> List {
+    let mut list = List::new();
+    let turns = [(0, 20), (1, 3), (3, 18), (2, 17), (0, 30), (1, 31), (3, 16), (2, 20), (1, 18), (0, 17)];
+    let mut next = [0; 4];
+    for (kind, many) in turns {
+        for _ in 0..many {
+            let n = next[kind];
+            next[kind] += 1;
+            let (a, b) = match kind {
+                0 => (format!("p/{}#{n}", n % 5), String::new()),
+                1 => (format!("{n}"), String::new()),
+                2 => (format!("{n}"), format!("t{}", n % 3)),
+                _ => (format!("h{}", n % 4), format!("{n}")),
+            };
+            list.add(kind, &a, &b);
+            if n % 6 == 3 {
+                list.add(kind, &a, &b);
+                list.find(kind, &a, &b);
+                list.find((kind + 2) % 4, &a, if kind == 0 { "t0" } else { "" });
+            }
+        }
+    }
+    list.counts();
+    for number in (0..16 * 15).step_by(3) {
+        list.read(number);
+    }
+    list
+}
+
+/// 70 heads of IRIs and 70 of typed values; names before and behind the 64th again.
+fn heads() -> List {
+    let mut list = List::new();
+    let mut numbers = Vec::new();
+    for n in 0..70 {
+        let iri = list.add(0, &format!("{n}/"), "");
+        let typed = list.add(3, &format!("{n}"), "v");
+        if n % 8 == 0 || n > 60 {
+            numbers.extend([iri, typed]);
+        }
+    }
+    for n in [0, 1, 62, 63, 64, 65, 69] {
+        for rest in ["", "x", "@", "A", "\0"] {
+            numbers.push(list.add(0, &format!("{n}/{rest}"), ""));
+            numbers.push(list.add(3, &format!("{n}"), rest));
+            list.find(0, &format!("{n}#{rest}"), "");
+            list.find(3, &format!("{n}{rest}"), "");
+        }
+    }
+    list.counts();
+    for number in numbers {
+        list.read(number);
+    }
+    list
+}
+
+/// Tags at the border of 127 bytes, with and without what is escaped; texts that could be taken for a part of a tag.
+fn tags() -> List {
+    let mut list = List::new();
+    let mut numbers = Vec::new();
+    for (length, make) in [(1, ">"), (2, "\\"), (127, ">"), (128, "a"), (128, "\\a"), (129, "a>")] {
+        let tag: String = make.chars().cycle().take(length).collect();
+        list.find(2, "", &tag);
+        for text in ["", ">", "\\a>"] {
+            numbers.push(list.add(2, text, &tag));
+        }
+        list.add(2, ">", &tag);
+        list.find(2, ">a", &tag);
+    }
+    for number in numbers {
+        list.read(number);
+    }
+    list.counts();
+    list
+}
+
+/// Random short names over few letters, so that many are known, near to one another, or of another kind.
+fn mixed() -> List {
+    let mut list = List::new();
+    let mut random = Random(5);
+    let letters = ["a", "/", "#", "\\", ">", "\u{e9}", "\u{1f600}", "\0", "\x7f"];
+    for _ in 0..200 {
+        let mut word = |most: usize| {
+            let n = random.below(most + 1);
+            (0..n).map(|_| *random.one(&letters)).collect::<String>()
+        };
+        let (a, b) = (word(3), word(1));
+        let kind = random.below(4);
+        let b = match kind {
+            0 | 1 => String::new(),
+            2 if b.is_empty() => "a".to_string(),
+            _ => b,
+        };
+        match random.below(6) {
+            0..=2 => {
+                list.add(kind, &a, &b);
+            }
+            3 => list.find(kind, &a, &b),
+            _ => list.read(random.below(16 * 8) as u64),
+        }
+    }
+    list.counts();
+    list
+}
+
+pub fn print() {
+    println!("// Calls with the answers of the original (Nemo, commit 7706c48f81), with blocks of 16. Made by `tools/compare NEMO_SOURCE ARCHIVE");
+    println!("// stored`; no answer comes from this library. replay.rt tells what a line says.");
+    println!("use crate::replay;\nuse crate::replay::Lists;\nuse crate::replay::Pages;");
+    for (name, note, list) in lists() {
+        list.print(name, note);
+    }
+}
+
+/// What the program prints if no answer differs.
+pub fn print_stdout() {
+    for (name, _, list) in lists() {
+        for (n, piece) in list.pieces().iter().enumerate() {
+            println!("{name} {}: {} calls, 0 differ", n + 1, piece.len());
+        }
+    }
+}
+
+fn lists() -> [(&'static str, &'static str, List); 4] {
+    [
+        ("blocks", "The kinds in turns, so that their blocks lie between one another and some are skipped; then every third number read.", blocks()),
+        ("heads", "70 heads of IRIs and 70 of typed values; names before and behind the 64th again.", heads()),
+        ("tags", "Tags at the border of 127 bytes, with what is escaped in them.", tags()),
+        ("mixed", "Random short names over few letters.", mixed()),
+    ]
+}
