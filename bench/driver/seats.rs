@@ -1,0 +1,115 @@
+//! What is done with each dictionary, and the hash alone.
+use crate::books::Book;
+use crate::names::{Input, Name, COUNTS};
+use std::hint::black_box;
+
+#[derive(Clone, Copy)]
+pub enum Operation {
+    Fresh,
+    Known,
+    Hit,
+    Miss,
+    Read,
+}
+
+pub const OPERATIONS: [(Operation, &str); 5] = [
+    (Operation::Fresh, "add fresh"),
+    (Operation::Known, "add known"),
+    (Operation::Hit, "find hit"),
+    (Operation::Miss, "find miss"),
+    (Operation::Read, "read"),
+];
+
+pub trait Contender {
+    fn clear(&mut self);
+    /// Makes a call for each name of the kind.
+    fn run(&mut self, operation: Operation, kind: usize, input: &Input);
+    /// After all adds: every name is found and read back, and no other is. The numbers given.
+    fn check(&self, input: &Input) -> Option<&[Vec<u64>; 4]>;
+}
+
+pub struct Seat<B> {
+    book: B,
+    numbers: [Vec<u64>; 4],
+    buffer: Vec<u8>,
+}
+
+impl<B: Book> Seat<B> {
+    pub fn new(book: B) -> Self {
+        Seat { book, numbers: COUNTS.map(|count| vec![0; count]), buffer: vec![0; 4000] }
+    }
+}
+
+impl<B: Book> Contender for Seat<B> {
+    fn clear(&mut self) {
+        self.book.clear();
+    }
+
+    fn run(&mut self, operation: Operation, kind: usize, input: &Input) {
+        let (book, numbers) = (&mut self.book, &mut self.numbers[kind]);
+        match operation {
+            Operation::Fresh => {
+                for (name, number) in input.known[kind].iter().zip(numbers) {
+                    *number = book.add(name);
+                }
+            }
+            Operation::Known => {
+                for name in &input.asked[kind] {
+                    black_box(book.add(name));
+                }
+            }
+            Operation::Hit => {
+                for name in &input.asked[kind] {
+                    black_box(book.find(name));
+                }
+            }
+            Operation::Miss => {
+                for name in &input.missing[kind] {
+                    black_box(book.find(name));
+                }
+            }
+            Operation::Read => {
+                for i in &input.order[kind] {
+                    book.read(numbers[*i], &mut self.buffer);
+                }
+            }
+        }
+    }
+
+    fn check(&self, input: &Input) -> Option<&[Vec<u64>; 4]> {
+        for (name, number) in input.known.iter().flatten().zip(self.numbers.iter().flatten()) {
+            assert_eq!(self.book.find(name), Some(*number));
+            assert_eq!(self.book.bytes(*number), [name.first.as_bytes(), name.second.as_bytes()].concat());
+        }
+        assert!(input.missing.iter().flatten().all(|name| self.book.find(name).is_none()));
+        Some(&self.numbers)
+    }
+}
+
+/// FNV-1a of 32 bits over a name's bytes: a multiply for each byte, each waiting for the one before.
+pub struct HashAlone;
+
+fn fnv_from(start: u32, bytes: &[u8]) -> u32 {
+    bytes.iter().fold(start, |h, b| (h ^ *b as u32).wrapping_mul(16_777_619))
+}
+
+fn hash(name: &Name) {
+    black_box(fnv_from(fnv_from(2_166_136_261, name.first.as_bytes()), name.second.as_bytes()));
+}
+
+impl Contender for HashAlone {
+    fn clear(&mut self) {}
+
+    fn run(&mut self, operation: Operation, kind: usize, input: &Input) {
+        match operation {
+            Operation::Fresh => input.known[kind].iter().for_each(hash),
+            Operation::Known | Operation::Hit => input.asked[kind].iter().for_each(hash),
+            Operation::Miss => input.missing[kind].iter().for_each(hash),
+            Operation::Read => {}
+        }
+    }
+
+    fn check(&self, _: &Input) -> Option<&[Vec<u64>; 4]> {
+        None
+    }
+}
