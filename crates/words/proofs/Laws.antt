@@ -28,6 +28,23 @@ le-agree (suc n) s t b c at =
     le-agree n s t (suc b) (suc c) (λ k h. let p : suc b + k ≡ b + suc k = omega arith in let q : suc c + k ≡ c + suc k = omega arith in rw (p, q) (at (suc k) (omega arith))) in
     cc
 
+-- And the other way round: one number, the same bytes.
+pub le-same : (n : ℕ) (s t : Bytes) (b c : ℕ) → ((k : ℕ) → getD s k 0 < 256) → ((k : ℕ) → getD t k 0 < 256)
+    → leAt n s b ≡ leAt n t c → (k : ℕ) → k < n → getD s (b + k) 0 ≡ getD t (c + k) 0
+unfolding leAt
+le-same zero s t b c hs ht e k l = absurd (omega arith)
+le-same (suc n) s t b c hs ht e zero l =
+    let p = hs b in
+    let q = ht c in
+    simp add-zero (omega arith)
+le-same (suc n) s t b c hs ht e (suc k) l =
+    let p = hs b in
+    let q = ht c in
+    let f : leAt n s (suc b) ≡ leAt n t (suc c) = omega arith in
+    let u : b + suc k ≡ suc b + k = omega arith in
+    let v : c + suc k ≡ suc c + k = omega arith in
+    rw (u, v) (le-same n s t (suc b) (suc c) hs ht f k (omega arith))
+
 -- Bytes that are all 0.
 pub le-zero : (n : ℕ) (s : Bytes) (b : ℕ) → ((k : ℕ) → k < n → getD s (b + k) 0 ≡ 0) → leAt n s b ≡ 0
 unfolding leAt

@@ -1,9 +1,9 @@
-// Little-endian numbers in a slice of bytes, at an index that counts them: words of eight bytes, quads of four.
+// Little-endian numbers in a slice of bytes: words of eight bytes, quads of four, at an index that counts them.
 // The sums of bytes below compile to one load or store.
 ghost use mathlib.Core.Path.{_≡_};
 ghost use Prim.Native.Nat.{_+_, _*_, _≤_, _<_};
 ghost use lib.ListN.{length};
-ghost use Rattle.words.specs.Words.{wordAt, setWord, quadAt, setQuad};
+ghost use Rattle.words.specs.Words.{leAt, wordAt, setWord, quadAt, setQuad};
 
 fn wide(x: u8) -> usize
     ensures { λ r. ⌜ (r ≡ x) × (r < 256) ⌝ }
@@ -11,12 +11,11 @@ fn wide(x: u8) -> usize
     x as usize
 }
 
-// The word at index i.
-pub fn word_at(s: &[u8], i: usize) -> usize
-    requires { ⌜ 8 * i + 8 ≤ length (now s) ⌝ }
-    ensures { λ r. ⌜ r ≡ wordAt (now (s .entry)) i ⌝ }
+// The word whose bytes begin at b.
+pub fn word_from(s: &[u8], b: usize) -> usize
+    requires { ⌜ b + 8 ≤ length (now s) ⌝ }
+    ensures { λ r. ⌜ r ≡ leAt 8 (now (s .entry)) b ⌝ }
 {
-    let b = 8 * i;
     wide(s[b])
         + wide(s[b + 1]) * 256
         + wide(s[b + 2]) * 65536
@@ -25,6 +24,14 @@ pub fn word_at(s: &[u8], i: usize) -> usize
         + wide(s[b + 5]) * 1099511627776
         + wide(s[b + 6]) * 281474976710656
         + wide(s[b + 7]) * 72057594037927936
+}
+
+// The word at index i.
+pub fn word_at(s: &[u8], i: usize) -> usize
+    requires { ⌜ 8 * i + 8 ≤ length (now s) ⌝ }
+    ensures { λ r. ⌜ r ≡ wordAt (now (s .entry)) i ⌝ }
+{
+    word_from(s, 8 * i)
 }
 
 // Puts x at word index i.
