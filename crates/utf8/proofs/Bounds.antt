@@ -1,11 +1,11 @@
 -- What the test says of each first byte, and how it goes on from one byte to the next. Assumes nothing.
 use Prim.Native.Nat.{ℕ, _+_, _≤_, _<_}
-use mathlib.Core.Path.{_≡_, refl}
+use mathlib.Core.Path.{_≡_, refl, ap}
 use mathlib.Core.Bool.{Bool, true, false, _&&_, cond}
 use mathlib.Core.List.{[], _∷_}
 use native.Mathlib.Numerals.{add-one}
 use native.Mathlib.Omega.{arith}
-use lib.Dec.{leb}
+use lib.Dec.{leb, eqb}
 use lib.ListN.{length, getD, drop, drop-of-length-le}
 use lib.Seq.{drop-cons}
 use borrow.Author.Tests.{le-leb, lt-leb, leb-true, ne-eqb}
@@ -128,3 +128,10 @@ text-more x y i s h e = rw (e, add-one, drop-cons s i 0)
 
 pub text-end : (x : Step) (i : ℕ) (s : Bytes) → length s ≤ i → textFrom x (drop i s) ≡ noneDue x
 text-end x i s h = rw (drop-of-length-le s h)
+
+-- With nothing due it is no matter what would be.
+pub none-due : (n lo hi : ℕ) → eqb n 0 ≡ true → (s : Bytes) → textFrom (Due n lo hi) s ≡ textFrom between s
+none-due n lo hi e [] = e
+none-due n lo hi e (b ∷ s) =
+    let p : after (Due n lo hi) b ≡ firstOf b = rw e in
+    ap (λ (x : Step). textFrom x s) p

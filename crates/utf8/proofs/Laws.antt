@@ -11,16 +11,9 @@ use Rattle.slices.proofs.Tests.{Split, split}
 use Rattle.utf8.specs.declared.Step.{Step}
 use Rattle.utf8.specs.declared.Step.the-variants.{Due, Bad}
 use Rattle.utf8.specs.Text.{within, between, firstOf, after, textFrom, isText}
-use Rattle.utf8.proofs.Bounds.{below, first-one, choose}
+use Rattle.utf8.proofs.Bounds.{below, first-one, choose, none-due}
 
 -- ---- text first
-
--- With nothing due it is no matter what would be.
-none-due : (n lo hi : ℕ) → eqb n 0 ≡ true → (s : Bytes) → textFrom (Due n lo hi) s ≡ textFrom between s
-none-due n lo hi e [] = e
-none-due n lo hi e (b ∷ s) =
-    let p : after (Due n lo hi) b ≡ firstOf b = rw e in
-    ap (λ (x : Step). textFrom x s) p
 
 append-from : (a b : Bytes) (x : Step) → textFrom x a ≡ true → textFrom x (a ++ b) ≡ textFrom between b
 append-from [] b Bad e = absurd (false≢true e)

@@ -2,3 +2,4 @@
 pub mod Bounds
 pub mod Grammar
 pub mod Laws
+pub mod Plain

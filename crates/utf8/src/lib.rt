@@ -1,6 +1,9 @@
 // Whether a run of bytes is UTF-8, as RFC 3629 has it: no surrogate, nothing above U+10FFFF, no character written longer than it need be.
 ghost use mathlib.Core.Path.{_≡_};
+ghost use Prim.Native.Nat.{_+_, _≤_, _<_};
+ghost use lib.ListN.{length, take, drop};
 ghost use Rattle.utf8.specs.Text.{firstOf, after, isText};
+ghost use Rattle.utf8.specs.Plain.{plain, Passed, Ends};
 
 // What the bytes read so far ask of the next one.
 pub enum Step {
@@ -44,22 +47,98 @@ fn next(left: usize, lo: u8, hi: u8, b: u8) -> Step
     Step::Due(left - 1, 0x80, 0xBF)
 }
 
-// Whether `s` is text.
-pub fn is_text(s: &[u8]) -> bool
-    ensures { λ r. ⌜ r ≡ isText (now (s .entry)) ⌝ }
+// Where a character ends. Bad: there is none.
+pub enum End {
+    At(usize),
+    Bad,
+}
+
+// The character that begins at i.
+fn char_end(s: &[u8], i: usize) -> End
+    requires { ⌜ i < length (now s) ⌝ }
+    ensures { λ r. ⌜ Ends (now (s .entry)) i r ⌝ }
 {
-    let mut left = 0;
-    let mut lo = 0x80;
-    let mut hi = 0xBF;
-    let mut i = 0;
-    while i < s.len() {
-        let Step::Due(n, l, h) = next(left, lo, hi, s[i]) else {
-            return false;
+    let Step::Due(mut left, mut lo, mut hi) = first(s[i]) else {
+        return End::Bad;
+    };
+    let mut k = i + 1;
+    while left > 0 {
+        if k == s.len() {
+            return End::Bad;
+        }
+        let Step::Due(n, l, h) = next(left, lo, hi, s[k]) else {
+            return End::Bad;
         };
         left = n;
         lo = l;
         hi = h;
-        i += 1;
+        k += 1;
     }
-    left == 0
+    End::At(k)
+}
+
+// The top bit of each byte of a word. A plain byte, a character by itself, has none.
+const TOP_BITS: usize = 0x8080808080808080;
+
+// Whether the eight bytes from i on are plain.
+fn is_plain(s: &[u8], i: usize) -> bool
+    requires { ⌜ i + 8 ≤ length (now s) ⌝ }
+    ensures { λ r. ⌜ r ≡ plain (take 8 (drop i (now (s .entry)))) ⌝ }
+{
+    words::word_from(s, i) & TOP_BITS == 0
+}
+
+// Past plain bytes from i on, eight at a time. The last eight may begin before what is left.
+fn pass_words(s: &[u8], i: usize) -> usize
+    requires { ⌜ i ≤ length (now s) ⌝ }
+    ensures { λ r. ⌜ Passed (now (s .entry)) i r ⌝ }
+{
+    let n = s.len();
+    let mut k = i;
+    while 8 <= n - k {
+        if !is_plain(s, k) {
+            return k;
+        }
+        k += 8;
+    }
+    if n < 8 {
+        return k;
+    }
+    if is_plain(s, n - 8) { n } else { k }
+}
+
+// Past plain bytes from i on, one at a time.
+fn pass_bytes(s: &[u8], i: usize) -> usize
+    requires { ⌜ i ≤ length (now s) ⌝ }
+    ensures { λ r. ⌜ Passed (now (s .entry)) i r ⌝ }
+{
+    let mut k = i;
+    while k < s.len() {
+        if s[k] >= 0x80 {
+            return k;
+        }
+        k += 1;
+    }
+    k
+}
+
+fn pass_plain(s: &[u8], i: usize) -> usize
+    requires { ⌜ i ≤ length (now s) ⌝ }
+    ensures { λ r. ⌜ Passed (now (s .entry)) i r ⌝ }
+{
+    pass_bytes(s, pass_words(s, i))
+}
+
+// Whether `s` is text.
+pub fn is_text(s: &[u8]) -> bool
+    ensures { λ r. ⌜ r ≡ isText (now (s .entry)) ⌝ }
+{
+    let mut i = pass_plain(s, 0);
+    while i < s.len() {
+        let End::At(k) = char_end(s, i) else {
+            return false;
+        };
+        i = pass_plain(s, k);
+    }
+    true
 }

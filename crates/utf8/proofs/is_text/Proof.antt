@@ -1,71 +1,73 @@
--- `utf8::is_text` meets its contract. The loop's invariant: the bytes that are left, after those read, are text where all of them are.
+-- `utf8::is_text` meets its contract. The loop's invariant: the bytes from i on are text where all of them are.
 -- The measure is the number of bytes left. Assumes nothing.
-use Prim.Native.Nat.{_+_, _≤_, _-_}
-use mathlib.Core.Path.{_≡_, refl, sym, _∙_}
+use Prim.Native.Nat.{ℕ, _-_, _≤_}
+use mathlib.Core.Path.{_≡_, sym, _∙_, subst}
+use mathlib.Core.Bool.{false}
 use native.Mathlib.Omega.{arith}
 use lib.ListN.{length, drop}
 use denote.Enum.Declared.{tagOf}
 use borrow.Author.Needs.{needs}
-use Rattle.utf8.specs.declared.Step.{Step}
-use Rattle.utf8.specs.declared.Step.the-variants.{Due, Bad}
-use Rattle.utf8.specs.Text.{textFrom, isText}
-use Rattle.utf8.proofs.Step.{the-type}
-use Rattle.utf8.proofs.Bounds.{bad-stays, text-more, text-end}
+use Rattle.slices.specs.Bytes.{Bytes}
+use Rattle.utf8.specs.declared.End.{End}
+use Rattle.utf8.specs.declared.End.the-variants.{At, Bad}
+use Rattle.utf8.specs.Text.{between, textFrom, isText}
+use Rattle.utf8.specs.Plain.{Ends}
+use Rattle.utf8.proofs.End.{the-type}
+use Rattle.utf8.proofs.Bounds.{text-end}
 use Rattle.utf8.proofs.is_text.Statement.{statement}
 use Rattle.utf8.proofs.is_text.Tie as tie
 
-bad-only : (x : Step) → tagOf the-type x ≡ 1 → x ≡ Bad
-bad-only (Due n lo hi) e = absurd (omega arith)
-bad-only Bad e = refl
+no-end : (s : Bytes) (i : ℕ) (r : End) → Ends s i r → tagOf the-type r ≡ 1 → textFrom between (drop i s) ≡ false
+no-end s i (At k) e t = absurd (omega arith)
+no-end s i Bad e t = e
 
 abbrev Inv-loop : tie.InvT-loop
-Inv-loop s left₀ lo₀ hi₀ i₀ left lo hi i = (i ≤ length s) × (textFrom (Due left lo hi) (drop i s) ≡ isText s)
+Inv-loop s i₀ i = (i ≤ length s) × (textFrom between (drop i s) ≡ isText s)
 
 abbrev μ-loop : tie.MeasureT-loop
-μ-loop s left₀ lo₀ hi₀ i₀ left lo hi i = length s - i
+μ-loop s i₀ i = length s - i
+
+-- The character at i ends at k.
+ends : (c : tie.After-known-told Inv-loop μ-loop)
+    → Ends (c .before .before .before .before .before .before .before .before .args .s .now) (c .before .before .before .before .before .loop .i) (At (c .before .k .given .0 .0))
+ends c = subst (Ends _ _) (c .before .k .given .1) (c .before .before .before .char-end .ensures)
+
+pass-plain-requires : tie.Need-pass-plain-requires Inv-loop μ-loop
+pass-plain-requires c κs = omega arith
 
 loop-holds : tie.Need-loop-holds Inv-loop μ-loop
 unfolding isText
-loop-holds c = (omega arith, refl)
+loop-holds c = (c .pass-plain .ensures .1, c .pass-plain .ensures .2)
 
-shared-slice-read-next : tie.Need-shared-slice-read-next Inv-loop μ-loop
-shared-slice-read-next c = omega arith
+char-end-requires : tie.Need-char-end-requires Inv-loop μ-loop
+char-end-requires c κs = omega arith
 
-next-requires : tie.Need-next-requires Inv-loop μ-loop
-next-requires c κs = search needs
-
-enum-known-n : tie.Need-enum-known-n Inv-loop μ-loop
-enum-known-n c = search needs
+enum-known-k : tie.Need-enum-known-k Inv-loop μ-loop
+enum-known-k c = search needs
 
 enum-told : tie.Need-enum-told Inv-loop μ-loop
 enum-told c = search needs
 
 returns : tie.Need-returns Inv-loop μ-loop
 returns c =
-    let a = c .before .before .before .before .before in
-    let s = a .before .before .args .s .now in
-    let p = bad-only (c .before .before .next .result) (c .before .match .keys2) in
-    sym (bad-stays (drop (a .loop .i + 1) s))
-    ∙ text-more (Due (a .loop .left) (a .loop .lo) (a .loop .hi)) Bad (a .loop .i) s (omega arith) (sym p ∙ c .before .before .next .ensures)
-    ∙ a .loop .inv .1
+    let a = c .before .before in
+    sym (no-end _ _ (a .char-end .result) (a .char-end .ensures) (c .before .match .keys2)) ∙ a .before .before .loop .inv .1
 
-add-i : tie.Need-add-i Inv-loop μ-loop
-add-i c = omega arith
+pass-plain-requires-2 : tie.Need-pass-plain-requires-2 Inv-loop μ-loop
+pass-plain-requires-2 c κs = ends c .1
 
 loop-less : tie.Need-loop-less Inv-loop μ-loop
-loop-less c = omega arith
+loop-less c = omega (arith, ends (c .before))
 
 loop-again : tie.Need-loop-again Inv-loop μ-loop
 loop-again c =
-    let a = c .before .before .before .before .before .before in
-    let s = a .before .before .args .s .now in
-    let p = sym (c .before .n .given .1) ∙ c .before .before .before .next .ensures in
-    (omega arith, text-more (Due (a .loop .left) (a .loop .lo) (a .loop .hi)) _ (a .loop .i) s (omega arith) p ∙ a .loop .inv .1)
+    let p = c .pass-plain2 .ensures in
+    (p .1, p .2 ∙ ends (c .before) .2 ∙ c .before .before .before .before .before .before .loop .inv .1)
 
 returns-2 : tie.Need-returns-2 Inv-loop μ-loop
 returns-2 c =
-    let a = c .before in
-    sym (text-end (Due (a .loop .left) (a .loop .lo) (a .loop .hi)) (a .loop .i) (a .before .before .args .s .now) (omega arith)) ∙ a .loop .inv .1
+    let a = c .before .loop in
+    sym (text-end between (a .i) _ (omega arith)) ∙ a .inv .1
 
 pub is-text-spec : {M : Type 1} → statement M
 is-text-spec =
@@ -73,13 +75,13 @@ is-text-spec =
     (tie.spec
     Inv-loop
     μ-loop
+    pass-plain-requires
     loop-holds
-    shared-slice-read-next
-    next-requires
-    enum-known-n
+    char-end-requires
+    enum-known-k
     enum-told
     returns
-    add-i
+    pass-plain-requires-2
     loop-less
     loop-again
     returns-2)

@@ -1,0 +1,29 @@
+-- Passing over characters: plain bytes, and one character of any length. Assumes nothing.
+use Prim.Native.Nat.{ℕ, _≤_, _<_}
+use mathlib.Core.Path.{_≡_}
+use mathlib.Core.Bool.{Bool, true, false, _&&_}
+use mathlib.Core.List.{[], _∷_}
+use lib.Dec.{ltb}
+use lib.ListN.{length, drop}
+use Rattle.slices.specs.Bytes.{Bytes}
+use Rattle.utf8.specs.declared.End.{End}
+use Rattle.utf8.specs.declared.End.the-variants.{At, Bad}
+use Rattle.utf8.specs.Text.{between, textFrom}
+
+-- Each byte is below 0x80, a character by itself.
+abbrev pub plain : Bytes → Bool
+plain [] = true
+plain (b ∷ s) = ltb b 0x80 && plain s
+
+-- The bytes from r on are text exactly if those from i on are.
+abbrev pub Same : Bytes → ℕ → ℕ → Type 0
+Same s i r = textFrom between (drop r s) ≡ textFrom between (drop i s)
+
+-- From i on to r, which changes nothing about what is left being text.
+abbrev pub Passed : Bytes → ℕ → ℕ → Type 0
+Passed s i r = (i ≤ r) × (r ≤ length s) × Same s i r
+
+-- The same past one character, which ends before k; or no character begins at i, and the bytes from i on are no text.
+abbrev pub Ends : Bytes → ℕ → End → Type 0
+Ends s i (At k) = (i < k) × (k ≤ length s) × Same s i k
+Ends s i Bad = textFrom between (drop i s) ≡ false
