@@ -19,7 +19,7 @@ use Rattle.layout.specs.Fields.{pageOf, offsetOf, sizeOf}
 use Rattle.bytes_index.specs.declared.Span.the-variants.{At, Bad}
 use Rattle.bytes_index.specs.Entries.{addressOf, Stands}
 use Rattle.bytes_index.specs.Field.{entryField}
-use Rattle.bytes_index.specs.Search.{frontIs}
+use Rattle.bytes_index.specs.Search.{frontIs, Agree}
 
 -- ---- an entry's word
 
@@ -168,11 +168,13 @@ module _ (s : Sizes) (pages : Bytes) (w at len : ℕ) (front rest key : Bytes) (
         let a : at + (length front + (length rest - k)) ≡ at + len - k = omega (arith, sized) in
         part-byte (length front + (length rest - k)) (omega (arith, sized)) ∙ ap (λ (x : ℕ). getD pages x 0) a
 
-    pub not-byte : (k : ℕ) → 0 < k → k ≤ length rest → getD pages (at + len - k) 0 ≢ getD rest (length rest - k) 0 → Stands s (λ a. getD pages a 0) w key → ⊥
-    not-byte k z l n t =
-        n (sym (rest-byte k z l) ∙ ap (λ (x : Bytes). getD x (length front + (length rest - k)) 0) (same-part t) ∙ getD-append-add front rest (length rest - k) 0)
+    pub not-all : (Agree pages (at + len) rest 0 (length rest) → ⊥) → Stands s (λ a. getD pages a 0) w key → ⊥
+    not-all n t =
+        n
+        (λ k z l.
+        sym (rest-byte k z l) ∙ ap (λ (x : Bytes). getD x (length front + (length rest - k)) 0) (same-part t) ∙ getD-append-add front rest (length rest - k) 0)
 
-    pub all-bytes : ((k : ℕ) → 0 < k → k ≤ length rest → getD pages (at + len - k) 0 ≡ getD rest (length rest - k) 0) → Stands s (λ a. getD pages a 0) w key
+    pub all-bytes : Agree pages (at + len) rest 0 (length rest) → Stands s (λ a. getD pages a 0) w key
     unfolding part
     all-bytes h =
         let n : ℕ = length front in

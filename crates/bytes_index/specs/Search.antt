@@ -3,7 +3,7 @@ use mathlib.Core.Path.{_≡_}
 use mathlib.Core.Bool.{Bool, _&&_}
 use mathlib.Core.List.{_++_}
 use mathlib.Core.Option.{some}
-use Prim.Native.Nat.{ℕ, _+_, _*_, _<_, _≤_}
+use Prim.Native.Nat.{ℕ, _+_, _-_, _*_, _<_, _≤_}
 use lib.Dec.{eqb}
 use lib.ListN.{length, getD, take}
 use Rattle.slices.specs.Bytes.{Bytes, sameBytes}
@@ -24,6 +24,16 @@ keyOf prefix mode tag rest = prefix ++ bytesOf mode tag ++ rest
 -- A stored key is this front and n bytes more.
 unfoldable pub frontIs : Bytes → Bytes → ℕ → Bool
 frontIs stored front n = eqb (length stored) (length front + n) && sameBytes front (take (length front) stored)
+
+-- The bytes of the rest with more than a and at most b bytes left are the same in the pages, where the rest ends at `end`.
+abbrev pub Agree : Bytes → ℕ → Bytes → ℕ → ℕ → Type 0
+Agree pages end rest a b = (k : ℕ) → a < k → k ≤ b → getD pages (end - k) 0 ≡ getD rest (length rest - k) 0
+
+-- With `left` bytes left, r more agree; 0: not all of the rest agrees.
+pub record Agreeing (pages : Bytes) (end : ℕ) (rest : Bytes) (left r : ℕ) : Type 0 where
+  pub within : r ≤ left
+  pub same : Agree pages end rest (left - r) left
+  pub differ : r ≡ 0 → Agree pages end rest 0 (length rest) → ⊥
 
 -- Slices long enough for the sizes, and a dictionary's number.
 pub record Fits (s : Sizes) (pages lists : Bytes) (d : ℕ) : Type 0 where

@@ -14,7 +14,7 @@ ghost use Rattle.parts.specs.Parts.{bytesOf};
 ghost use Rattle.layout.specs.Sizes.{InRange, dictionaries, listBytes};
 ghost use Rattle.layout.specs.Fields.{entryAt};
 ghost use Rattle.bytes_index.specs.Field.{Located};
-ghost use Rattle.bytes_index.specs.Search.{keyOf, frontIs, Fits, Searched};
+ghost use Rattle.bytes_index.specs.Search.{keyOf, frontIs, Fits, Agreeing, Searched};
 
 // A search ends at the entry of its key, or at an empty place. Bad: the memory is no dictionary's.
 pub enum Probe {
@@ -99,11 +99,35 @@ fn front_is(
     if after - measured != rest {
         return false;
     }
-    let b = a + measured;
     if !parts::same(Mode::Raw, prefix, &stored[..a]) {
         return false;
     }
+    // Most keys have no tag.
+    if measured == 0 {
+        return true;
+    }
+    let b = a + measured;
     parts::same(mode, tag, &stored[a..b])
+}
+
+// How many bytes more agree of the `left` last ones of the rest, which end at `end` in the pages: eight at a time where the rest has eight, else one. 0: they do not agree.
+fn agreeing(pages: &[u8], end: usize, rest: &[u8], left: usize) -> usize
+    requires { ⌜ (0 < left) × (left ≤ length (now rest)) × (length (now rest) ≤ end) × (end ≤ length (now pages)) ⌝ }
+    ensures { λ r. ⌜ Agreeing (now (pages .entry)) end (now (rest .entry)) left r ⌝ }
+{
+    let n = rest.len();
+    if n < 8 {
+        if pages[end - left] != rest[n - left] {
+            return 0;
+        }
+        return 1;
+    }
+    // The last eight may begin among bytes that were compared before.
+    let from = if left < 8 { 8 } else { left };
+    if words::word_from(pages, end - from) != words::word_from(rest, n - from) {
+        return 0;
+    }
+    if left < 8 { left } else { 8 }
 }
 
 // Searches the index of dictionary d for a key: from its hash up, 2e places at the most, to its entry or the first empty place.
@@ -149,10 +173,11 @@ pub fn bytes_to_id(
                 if left == 0 {
                     break 'probe;
                 }
-                if pages[end - left] != rest[n - left] {
+                let agreed = agreeing(pages, end, rest, left);
+                if agreed == 0 {
                     break;
                 }
-                left -= 1;
+                left -= agreed;
             }
         }
         j = up(j, m);

@@ -24,11 +24,11 @@ use Rattle.bytes_index.specs.declared.Span.the-variants.{At, Bad}
 use Rattle.bytes_index.specs.Place.{place}
 use Rattle.bytes_index.specs.Entries.{Stands}
 use Rattle.bytes_index.specs.Field.{entryField, Inside}
-use Rattle.bytes_index.specs.Search.{keyOf}
+use Rattle.bytes_index.specs.Search.{keyOf, Agree}
 use Rattle.bytes_index.proofs.Span.{the-type}
 use Rattle.bytes_index.proofs.Place.{place-zero, place-next}
 use Rattle.bytes_index.proofs.Index.{Passed, passed, hit, never-past, never-out, never-full, missed}
-use Rattle.bytes_index.proofs.Stored.{field-in, front-sized, not-front, not-byte, all-bytes}
+use Rattle.bytes_index.proofs.Stored.{field-in, front-sized, not-front, not-all, all-bytes}
 use Rattle.bytes_index.proofs.bytes_to_id.Statement.{statement}
 use Rattle.bytes_index.proofs.bytes_to_id.Tie as tie
 
@@ -44,7 +44,7 @@ Q lists s d j = quadAt lists (placeAt s d j)
 
 abbrev Inv-loop : tie.InvT-loop
 Inv-loop pages lists s d prefix mode tag rest e m places measured n j t w at len end left₀ left =
-    (left ≤ n) × ((k : ℕ) → left < k → k ≤ n → getD pages (end - k) 0 ≡ getD rest (n - k) 0)
+    (left ≤ n) × Agree pages end rest left n
 
 abbrev μ-loop : tie.MeasureT-loop
 μ-loop pages lists s d prefix mode tag rest e m places measured n j t w at len end left₀ left = left
@@ -109,13 +109,13 @@ never-bad s v p q f =
     let z : _≡_ {A = ℕ} 0 1 = cc in
     omega arith
 
--- One byte more compared, with `left` bytes left before it.
-more : (left n : ℕ) (P : ℕ → Type 0) → 0 < left → ((k : ℕ) → left < k → k ≤ n → P k) → P left → (k : ℕ) → left - 1 < k → k ≤ n → P k
-more left n P z h p k l u = go (decLt left k)
+-- A run after another.
+more : (a b n : ℕ) (P : ℕ → Type 0) → ((k : ℕ) → b < k → k ≤ n → P k) → ((k : ℕ) → a < k → k ≤ b → P k) → (k : ℕ) → a < k → k ≤ n → P k
+more a b n P h p k l u = go (decLt b k)
   where
-    go : Dec (left < k) → P k
+    go : Dec (b < k) → P k
     go (yes g) = h k g u
-    go (no g) = let e : left ≡ k = omega arith in subst P e p
+    go (no g) = p k l (omega arith)
 
 -- ---- the needs
 
@@ -237,26 +237,21 @@ front-is-requires c κs = c .before .before .before .before .before .before .bef
 loop-holds : tie.Need-loop-holds Inv-loop μ-loop Inv-probe μ-probe
 loop-holds c = (omega arith, λ k l u. absurd (omega arith))
 
-sub-if5 : tie.Need-sub-if5 Inv-loop μ-loop Inv-probe μ-probe
-sub-if5 c = omega (arith, rest-in (c .before .before))
-
-shared-slice-read-if5 : tie.Need-shared-slice-read-if5 Inv-loop μ-loop Inv-probe μ-probe
-shared-slice-read-if5 c = omega (arith, rest-in (c .before .before .before), ends (c .before .before .before .before .before .before))
-
-sub-if5-2 : tie.Need-sub-if5-2 Inv-loop μ-loop Inv-probe μ-probe
-sub-if5-2 c = omega arith
-
-shared-slice-read-if5-2 : tie.Need-shared-slice-read-if5-2 Inv-loop μ-loop Inv-probe μ-probe
-shared-slice-read-if5-2 c = omega arith
+agreeing-requires : tie.Need-agreeing-requires Inv-loop μ-loop Inv-probe μ-probe
+agreeing-requires c κs =
+    let t = c .before .before in
+    let l = rest-in t in
+    let e = ends (t .before .before .before) in
+    (omega arith, omega arith, omega arith, omega arith)
 
 sub-left : tie.Need-sub-left Inv-loop μ-loop Inv-probe μ-probe
-sub-left c = omega arith
+sub-left c = c .before .agreeing .ensures .within
 
 loop-less : tie.Need-loop-less Inv-loop μ-loop Inv-probe μ-probe
-loop-less c = omega arith
+loop-less c = omega (arith, c .before .agreeing .ensures .within)
 
 loop-again : tie.Need-loop-again Inv-loop μ-loop Inv-probe μ-probe
-loop-again c = (omega arith, more _ _ _ (omega arith) (c .before .before .before .before .loop .inv .1) (c .if5 .left))
+loop-again c = (omega arith, more _ _ _ _ (c .before .before .before .loop .inv .1) (c .before .agreeing .ensures .same))
 
 up-requires : tie.Need-up-requires Inv-loop μ-loop Inv-probe μ-probe
 up-requires c κs = omega arith
@@ -278,7 +273,7 @@ probe-again c =
     let w = W (a .lists .now) (a .s) (a .d) in
     let n : Stands (a .s) (B (a .pages .now)) (w (q .quad-at .result - 1)) key → ⊥ =
     ⊎-elim
-    (λ x. not-byte _ _ _ _ _ _ _ _ refl (field k) (ends k) (sym r ∙ x .0 .taken) (x .1 .left) (omega arith) (omega arith) (x .5 .taken))
+    (λ x. not-all _ _ _ _ _ _ _ _ refl (field k) (ends k) (sym r ∙ x .0 .taken) (x .3 .ensures .differ (x .4 .taken)))
     (λ x. not-front _ _ _ _ _ _ _ _ refl (field k) (ends k) (sym r ∙ x .left))
     (c .before .if4 .came) in (
       omega arith,
@@ -289,8 +284,8 @@ probe-again c =
           (p .inv .2) (quad q) (c .before .before .before .before .before .before .before .before .before .if2 .left) n),
     )
 
-sub-t21 : tie.Need-sub-t21 Inv-loop μ-loop Inv-probe μ-probe
-sub-t21 c = omega arith
+sub-t22 : tie.Need-sub-t22 Inv-loop μ-loop Inv-probe μ-probe
+sub-t22 c = omega arith
 
 returns-5 : tie.Need-returns-5 Inv-loop μ-loop Inv-probe μ-probe
 returns-5 c =
@@ -344,10 +339,7 @@ bytes-to-id-spec =
     part-front-is-end
     front-is-requires
     loop-holds
-    sub-if5
-    shared-slice-read-if5
-    sub-if5-2
-    shared-slice-read-if5-2
+    agreeing-requires
     sub-left
     loop-less
     loop-again
@@ -355,5 +347,5 @@ bytes-to-id-spec =
     add-t
     probe-less
     probe-again
-    sub-t21
+    sub-t22
     returns-5)

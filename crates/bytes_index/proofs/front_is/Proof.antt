@@ -2,7 +2,7 @@
 use mathlib.Core.Path.{_≡_, sym, _∙_}
 use mathlib.Core.Bool.{Bool, true, false}
 use mathlib.Core.Logic.{_≢_}
-use mathlib.Core.List.{_++_}
+use mathlib.Core.List.{[], _∷_, _++_}
 use Prim.Native.Nat.{ℕ, _+_, _-_}
 use native.Mathlib.Omega.{arith}
 use borrow.Author.Needs.{needs}
@@ -34,6 +34,13 @@ tag-says x a b n m l k r q e f g =
     let z : length a + m - length a ≡ length b = omega arith in
     g ∙ rw z (sym (front-parts x a b n (whole x a b n l) ∙ (rw (sym e ∙ f))))
 
+-- A tag that has no byte stands anywhere.
+no-byte : (b x : Bytes) (n m : ℕ) → m ≡ 0 → m ≡ length b → true ≡ sameBytes b (take (n + m - n) x)
+no-byte [] x n m z l =
+    let e : n + m - n ≡ 0 = omega arith in
+    rw e
+no-byte (a ∷ b) x n m z l = absurd (omega arith)
+
 returns : tie.Need-returns
 returns c =
     let z = c .before .before .before .before .args in
@@ -52,9 +59,6 @@ returns-3 c =
     let z = c .before .before .before .before .before .before .args in
     short (z .stored .now) (z .prefix .now) (bytesOf (z .mode) (z .tag .now)) (z .rest) (omega arith)
 
-add-b : tie.Need-add-b
-add-b c = search needs
-
 slice-aggregate-same : tie.Need-slice-aggregate-same
 slice-aggregate-same c = simp length-take (omega arith)
 
@@ -68,6 +72,19 @@ returns-4 c =
     sym (prefix-no (z .stored .now) (z .prefix .now) (bytesOf (z .mode) (z .tag .now)) (z .rest) (omega arith) _
     (c .before .same .ensures) (not-true _ (c .if4 .taken)))
 
+returns-5 : tie.Need-returns-5
+unfolding bytesOf
+returns-5 c =
+    let z = c .before .before .before .before .before .before .before .before .before .before .args in
+    let b = bytesOf (z .mode) (z .tag .now) in
+    tag-says (z .stored .now) (z .prefix .now) b (z .rest) (z .measured) (omega arith) (omega arith) _ true
+    (c .before .before .same .ensures)
+    (not-false _ (c .before .if4 .left))
+    (no-byte b _ _ _ (c .if5 .taken) (omega arith))
+
+add-b : tie.Need-add-b
+add-b c = search needs
+
 sub-same : tie.Need-sub-same
 sub-same c = search needs
 
@@ -80,13 +97,13 @@ part-same-end c = search needs
 same-requires-2 : tie.Need-same-requires-2
 same-requires-2 c κs = search needs
 
-returns-5 : tie.Need-returns-5
+returns-6 : tie.Need-returns-6
 unfolding bytesOf
-returns-5 c =
-    let z = c .before .before .before .before .before .before .before .before .before .before .before .args in
+returns-6 c =
+    let z = c .before .before .before .before .before .before .before .before .before .before .before .before .args in
     tag-says (z .stored .now) (z .prefix .now) (bytesOf (z .mode) (z .tag .now)) (z .rest) (z .measured) (omega arith) (omega arith) _ _
-    (c .before .before .before .same .ensures)
-    (not-false _ (c .before .before .if4 .left))
+    (c .before .before .before .before .same .ensures)
+    (not-false _ (c .before .before .before .if4 .left))
     (c .same2 .ensures)
 
 pub front-is-spec : {M : Type 1} → statement M
@@ -97,12 +114,13 @@ front-is-spec =
     sub-after
     returns-2
     returns-3
-    add-b
     slice-aggregate-same
     same-requires
     returns-4
+    returns-5
+    add-b
     sub-same
     part-same-start
     part-same-end
     same-requires-2
-    returns-5)
+    returns-6)
