@@ -1,6 +1,6 @@
 -- An entry that is a plain string, or a packed text and tag. Assumes nothing.
 use Prim.Native.Nat.{ℕ, _+_, _-_, _≤_}
-use mathlib.Core.Path.{_≡_, sym, ap, subst, _∙_}
+use mathlib.Core.Path.{_≡_, sym, ap, _∙_}
 use mathlib.Core.Bool.{true, false}
 use mathlib.Core.List.{List, []}
 use mathlib.Core.Option.{none}
@@ -9,14 +9,12 @@ use lib.ListN.{length, take, drop, length-append}
 use Rattle.slices.specs.Bytes.{Bytes}
 use Rattle.slices.proofs.Tests.{clash}
 use Rattle.parts.specs.Parts.{escaped}
-use Rattle.parts.proofs.Laws.{length-escaped}
-use Rattle.string_dv_dict.specs.declared.Form.{Form}
 use Rattle.string_dv_dict.specs.declared.Form.the-variants as F
 use Rattle.string_dv_dict.specs.Packed.{packed, tagIn, textIn, accepted, unescaped}
-use Rattle.string_dv_dict.specs.Scans.{formOf, Located}
+use Rattle.string_dv_dict.specs.Scans.{splitOf}
 use Rattle.string_dv_dict.proofs.Escapes.{read-escaped}
 use Rattle.string_dv_dict.proofs.Laws.{is-legal, pack-unpack}
-use Rattle.string_dv_dict.proofs.Located.{form-located}
+use Rattle.string_dv_dict.proofs.Located.{split-parts, long-low}
 use Rattle.layout.specs.declared.Sizes.{Sizes}
 use Rattle.layout.specs.Sizes.{pageBytes}
 use Rattle.model.specs.Names.{Name}
@@ -61,18 +59,15 @@ module _ (s : Sizes) (pages lists : Bytes) (at len : ℕ) (there : pageBytes s �
       let b : take len (drop at pages) ≡ packed (a .first) (a .second) = rw q at h in
       rw b (pack-unpack (a .first) (a .second) (is-legal (a .first) (a .second) (legal-pair s a p (rw q))))
 
-  located-by : (r : Form) → formOf (take len (drop at pages)) ≡ r → Located (take len (drop at pages)) r
-  located-by r e = subst (λ (x : Form). Located (take len (drop at pages)) x) e (form-located (take len (drop at pages)))
-
   whole : length (take len (drop at pages)) ≡ len
   whole = length-cut pages at len (omega arith)
 
-  pub located-cut : formOf (take len (drop at pages)) ≡ F.Cut → LocatesEntry s pages lists 2 at len Bad
-  located-cut e = record { range = tt; right = λ st a S p q old h. clash (unpacks a (st .part 2 .heads) p q h .0) (located-by F.Cut e) }
+  pub located-cut : splitOf (take len (drop at pages)) ≡ F.Cut → LocatesEntry s pages lists 2 at len Bad
+  located-cut e = record { range = tt; right = λ st a S p q old h. clash (unpacks a (st .part 2 .heads) p q h .0) (split-parts _ F.Cut e) }
 
-  module _ (n : ℕ) (e : formOf (take len (drop at pages)) ≡ F.Short n) where
+  module _ (n : ℕ) (e : splitOf (take len (drop at pages)) ≡ F.Short n) where
     pub short-within : n + 1 ≤ len
-    short-within = omega (arith, located-by (F.Short n) e .within, whole)
+    short-within = omega (arith, split-parts _ (F.Short n) e .within, whole)
 
     pub located-short : LocatesEntry s pages lists 2 at len (At (record {
       kind = 2;
@@ -86,7 +81,7 @@ module _ (s : Sizes) (pages lists : Bytes) (at len : ℕ) (there : pageBytes s �
     }))
     unfolding piecesIn
     located-short =
-        let S = located-by (F.Short n) e in
+        let S = split-parts _ (F.Short n) e in
         let inner : n + 1 ≤ len = short-within in
         let lf : length (take (len - (n + 1)) (drop (at + (n + 1)) pages)) ≡ len - (n + 1) = length-cut pages (at + (n + 1)) (len - (n + 1)) (omega arith) in
         let lb : length (take n (drop (at + 1) pages)) ≡ n = length-cut pages (at + 1) n (omega arith) in
@@ -107,9 +102,9 @@ module _ (s : Sizes) (pages lists : Bytes) (at len : ℕ) (there : pageBytes s �
               record { kind = sym q; first = sym lf ∙ ap length f; second = sym lb ∙ ap length b; bytes = rw (f, b) };
         }
 
-  module _ (end n : ℕ) (e : formOf (take len (drop at pages)) ≡ F.Long end n) where
+  module _ (end n : ℕ) (e : splitOf (take len (drop at pages)) ≡ F.Long end n) where
     pub long-within : end + 2 ≤ len
-    long-within = omega (arith, located-by (F.Long end n) e .within, whole)
+    long-within = omega (arith, split-parts _ (F.Long end n) e .within, whole)
 
     pub located-long : LocatesEntry s pages lists 2 at len (At (record {
       kind = 2;
@@ -123,15 +118,14 @@ module _ (s : Sizes) (pages lists : Bytes) (at len : ℕ) (there : pageBytes s �
     }))
     unfolding piecesIn
     located-long =
-        let S = located-by (F.Long end n) e in
+        let S = split-parts _ (F.Long end n) e in
         let inner : end + 2 ≤ len = long-within in
         let E = take len (drop at pages) in
         let lf : length (take (len - (end + 2)) (drop (at + (end + 2)) pages)) ≡ len - (end + 2) = length-cut pages (at + (end + 2)) (len - (end + 2)) (omega arith) in
-        let lb : length (take end (drop (at + 1) pages)) ≡ end = length-cut pages (at + 1) end (omega arith) in
         let t : take end (drop (at + 1) pages) ≡ escaped (tagIn E) = cut-inner pages at len (omega arith) 1 end (omega arith) ∙ sym (S .tag) in
         let g : unescaped false (take end (drop (at + 1) pages)) ≡ tagIn E = rw t (read-escaped (tagIn E)) in
         let lt : length (unescaped false (take end (drop (at + 1) pages))) ≡ n = ap length g ∙ S .tagLength in
-        let low : n ≤ end = omega (arith, length-escaped (tagIn E) .1, ap length t, lb, S .tagLength) in
+        let low : n ≤ end = long-low S in
         record {
           range = record {
             kinded = omega arith;

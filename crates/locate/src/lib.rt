@@ -82,7 +82,7 @@ fn locate_tagged(pages: &[u8], lists: &[u8], s: Sizes, at: usize, len: usize) ->
     requires { ⌜ InRange s × (pageBytes s ≤ length (now pages)) × (at + len ≤ pageBytes s) ⌝ }
     ensures { λ r. ⌜ LocatesEntry s (now (pages .entry)) (now (lists .entry)) 2 at len r ⌝ }
 {
-    match string_dv_dict::locate(bytes_dictionary::id_to_bytes(pages, at, len)) {
+    match string_dv_dict::split(bytes_dictionary::id_to_bytes(pages, at, len)) {
         Form::Short(n) => Located::At(Pieces {
             kind: TAGGED,
             first: len - (n + 1),

@@ -1,88 +1,128 @@
--- From the parts of a form that the code looks at to what is known of the form. Assumes nothing.
-use Prim.Native.Nat.{ℕ, suc, _+_, _-_, _<_}
+-- What a form that was split looks like, and when it is one that packing makes. Assumes nothing.
+use Prim.Native.Nat.{ℕ, suc, _+_, _-_, _<_, _≤_}
 use mathlib.Core.Path.{_≡_, refl, sym, ap, subst, _∙_}
 use mathlib.Core.Logic.{_≢_, inl, inr}
 use mathlib.Core.Bool.{true, false}
 use mathlib.Core.List.{[], _∷_}
+use mathlib.Core.Option.{none}
 use native.Mathlib.Nat.{zero-add}
-use native.Mathlib.Numerals.{add-one}
 use native.Mathlib.Omega.{arith}
-use lib.ListN.{length, take, drop, getD, length-drop}
+use lib.Dec.{eqb, leb, ltb}
+use lib.ListN.{length, take, drop, length-drop}
 use lib.Seq.{take-all, drop-drop, length-take-le}
+use borrow.Author.Tests.{eqb-true, eqb-false, leb-true, leb-false, ltb-true, ltb-false}
 use Rattle.slices.specs.Bytes.{Bytes}
-use borrow.Author.Tests.{eqb-true, eqb-false, ne-eqb}
-use lib.Dec.{eqb}
 use Rattle.slices.proofs.Tests.{Split, split, clash}
 use Rattle.utf8.specs.Text.{isText}
 use Rattle.parts.specs.Parts.{escaped}
-use Rattle.string_dv_dict.specs.declared.Scan.the-variants.{Plain}
-use Rattle.string_dv_dict.specs.Packed.{pairRefusal, before, behind, unescaped, tagIn, textIn, accepted}
+use Rattle.parts.proofs.Laws.{length-escaped}
+use Rattle.string_dv_dict.specs.declared.Scan.{Scan}
+use Rattle.string_dv_dict.specs.declared.Scan.the-variants.{Plain, Escape, Bad}
 use Rattle.string_dv_dict.specs.declared.Form.{Form}
 use Rattle.string_dv_dict.specs.declared.Form.the-variants as F
-use Rattle.string_dv_dict.specs.Scans.{scanFrom, formOf, ShortForm, LongForm, Located}
+use Rattle.string_dv_dict.specs.Packed.{pairRefusal, before, unescaped, tagIn, textIn, accepted}
+use Rattle.string_dv_dict.specs.Scans.{scanFrom, longBy, longSplit, splitOf, formOf, ShortForm, LongForm, Splits}
 use Rattle.string_dv_dict.proofs.Escapes.{read-escaped, scan-escaped, scan-good, take-before, before-split}
 use Rattle.string_dv_dict.proofs.Text.{text-escaped}
-use Rattle.string_dv_dict.proofs.Laws.{legal, unpack-pack, short-form, Short, accepted-short, short-accepted, Long, accepted-long, long-accepted}
+use Rattle.string_dv_dict.proofs.Laws.{legal, unpack-pack, short-form, accepted-short, short-accepted, Long, accepted-long, long-accepted}
 
 -- A part that runs to the end, and one that starts behind the first byte.
 pub to-end : (s : Bytes) (k : ℕ) → take (length s - k) (drop k s) ≡ drop k s
 to-end s k = take-all (length s - k) (drop k s) (simp length-drop (omega arith))
 
-pub behind-first : (s : Bytes) (n : ℕ) → take (n + 1 - 1) (drop 1 s) ≡ take n (drop 1 s)
+behind-first : (s : Bytes) (n : ℕ) → take (n + 1 - 1) (drop 1 s) ≡ take n (drop 1 s)
 behind-first s n = let e : n + 1 - 1 ≡ n = omega arith in rw e
 
-pub whole : (form : Bytes) → 0 < length form → getD form 0 0 ∷ drop 1 form ≡ form
-whole [] h = absurd (omega arith)
-whole (n ∷ s) h = refl
-
-pub not-accepted : (form : Bytes) → (accepted form ≡ true → ⊥) → accepted form ≡ false
+not-accepted : (form : Bytes) → (accepted form ≡ true → ⊥) → accepted form ≡ false
 not-accepted form never = go (split (accepted form))
   where
     go : Split (accepted form) → accepted form ≡ false
     go (inl p) = absurd (never p)
     go (inr p) = p
 
--- ---- what the code answers, and what that says of the form
+-- ---- what was split
 
-pub cut-is : (form : Bytes) → accepted form ≡ false → F.Cut ≡ formOf form
-unfolding formOf
-cut-is form p = rw p
+record IsShort (form : Bytes) (n : ℕ) : Type 0 where
+  whole : n ∷ drop 1 form ≡ form
+  filled : n ≢ 0
+  within : n ≤ length (drop 1 form)
+
+record IsLong (form : Bytes) (end n : ℕ) : Type 0 where
+  whole : 0 ∷ drop 1 form ≡ form
+  ended : length (before (drop 1 form)) < length (drop 1 form)
+  stands : end ≡ length (before (drop 1 form))
+  tag : escaped (unescaped false (before (drop 1 form))) ≡ before (drop 1 form)
+  size : n ≡ length (unescaped false (before (drop 1 form)))
+
+abbrev Is : Bytes → Form → Type 0
+Is form (F.Short n) = IsShort form n
+Is form (F.Long end n) = IsLong form end n
+Is form F.Cut = accepted form ≡ false
 
 empty-cut : accepted [] ≡ false
 unfolding tagIn
 empty-cut = not-accepted [] (λ p. clash refl (legal (textIn []) (tagIn []) (unpack-pack [] p .0) .tagged))
 
-pub empty : (form : Bytes) → length form ≡ 0 → F.Cut ≡ formOf form
-empty [] e = cut-is [] empty-cut
-empty (n ∷ s) e = absurd (omega arith)
+-- What stands before the first '>' of an accepted form scans well.
+scans : (s : Bytes) → Long s → scanFrom (Plain 0) (before s) ≡ Plain (length (unescaped false (before s)))
+scans s h =
+    let tag = unescaped false (before s) in
+    ap (λ (x : Bytes). scanFrom (Plain 0) x) (sym (h .form)) ∙ scan-escaped tag 0 ∙ ap Plain (zero-add (length tag))
 
--- ---- a short tag
+is-long : (s : Bytes) → Is (0 ∷ s) (longSplit s)
+unfolding longSplit
+is-long s = go (split (ltb (length (before s)) (length s)))
+  where
+    by : length (before s) < length s → (r : Scan) → scanFrom (Plain 0) (before s) ≡ r → Is (0 ∷ s) (longBy (length (before s)) r)
+    by l (Plain n) e = let g = scan-good (before s) n e in record { whole = refl; ended = l; stands = refl; tag = g .0; size = g .1 }
+    by l (Escape n) e = not-accepted (0 ∷ s) (λ p. let z : _≡_ {A = ℕ} 0 1 = cc (scans s (accepted-long s p)) in omega arith)
+    by l Bad e = not-accepted (0 ∷ s) (λ p. let z : _≡_ {A = ℕ} 0 1 = cc (scans s (accepted-long s p)) in omega arith)
 
-module _ (form s : Bytes) (n : ℕ) (w : n ∷ s ≡ form) (z : n ≢ 0) where
-  pub short-cut : (Short n s → ⊥) → F.Cut ≡ formOf form
-  short-cut never = cut-is form (not-accepted form (λ p. never (accepted-short n s z (ap accepted w ∙ p))))
+    go : Split (ltb (length (before s)) (length s)) → Is (0 ∷ s) (longSplit s)
+    go (inl p) = rw p (by (ltb-true _ _ p) (scanFrom (Plain 0) (before s)) refl)
+    go (inr p) = rw p (not-accepted (0 ∷ s) (λ q. omega (arith, accepted-long s q .ended, ltb-false)))
 
-  pub short-found : Short n s → F.Short n ≡ formOf form
-  unfolding formOf
-  short-found h = subst (λ (f : Bytes). F.Short n ≡ formOf f) w (rw (short-accepted n s z h, ne-eqb n 0 z))
+is-split : (form : Bytes) → Is form (splitOf form)
+unfolding splitOf
+is-split [] = empty-cut
+is-split (n ∷ s) = go (split (eqb n 0)) (split (leb n (length s)))
+  where
+    go : Split (eqb n 0) → Split (leb n (length s)) → Is (n ∷ s) (splitOf (n ∷ s))
+    go (inl p) q = rw p (subst (λ (k : ℕ). Is (k ∷ s) (longSplit s)) (sym (eqb-true n 0 p)) (is-long s))
+    go (inr p) (inl q) = rw (p, q) (record { whole = refl; filled = eqb-false n 0 p; within = leb-true _ _ q })
+    go (inr p) (inr q) = rw (p, q) (not-accepted (n ∷ s) (λ h. omega (arith, accepted-short n s (eqb-false n 0 p) h .within, leb-false)))
 
-  short-located : Short n s → ShortForm form n
-  short-located h =
-      subst (λ (f : Bytes). ShortForm f n) w
-      (record {
-        taken = short-accepted n s z h;
-        tag = short-form n s z .1;
-        text = rw add-one (short-form n s z .0);
-        within = omega (arith, h .within);
-      })
+split-is : (form : Bytes) (r : Form) → splitOf form ≡ r → Is form r
+split-is form r e = subst (λ (x : Form). Is form x) e (is-split form)
 
--- The text and the tag as the code cuts them out.
-pub short-pair : (form : Bytes) (n : ℕ)
-    → pairRefusal (take (length form - (n + 1)) (drop (n + 1) form)) (take (n + 1 - 1) (drop 1 form)) ≡ pairRefusal (drop n (drop 1 form)) (take n (drop 1 form))
-short-pair form n =
-    let e : n + 1 ≡ 1 + n = omega arith in
-    rw (to-end form (n + 1), behind-first form n, drop-drop n 1 form, e)
+-- ---- what that says of the parts
 
+pub split-parts : (form : Bytes) (r : Form) → splitOf form ≡ r → Splits form r
+unfolding textIn tagIn
+split-parts form (F.Short n) e =
+    let h = split-is form (F.Short n) e in
+    let p = short-form n (drop 1 form) (h .filled) in
+    let k : n + 1 ≡ 1 + n = omega arith in
+    record {
+      split = e;
+      tag = ap tagIn (sym (h .whole)) ∙ p .1;
+      text = ap textIn (sym (h .whole)) ∙ p .0 ∙ rw k (drop-drop n 1 form);
+      within = omega (arith, h .within, h .filled, length-drop 1 form);
+    }
+split-parts form (F.Long end n) e =
+    let h = split-is form (F.Long end n) e in
+    let s = drop 1 form in
+    let k : end + 2 ≡ 1 + suc end = omega arith in
+    record {
+      split = e;
+      tag = ap (λ (x : Bytes). escaped (tagIn x)) (sym (h .whole)) ∙ h .tag ∙ rw (h .stands) (sym (take-before s));
+      text = ap textIn (sym (h .whole)) ∙ before-split s (h .ended) .1 ∙ rw (k, ← h .stands) (drop-drop (suc end) 1 form);
+      within = omega (arith, h .ended, h .stands, length-drop 1 form);
+      tagLength = ap (λ (x : Bytes). length (tagIn x)) (sym (h .whole)) ∙ sym (h .size);
+    }
+split-parts form F.Cut e = split-is form F.Cut e
+
+-- The parts as the code cuts them out, and which short forms packing makes.
 module _ {form : Bytes} {n : ℕ} (h : ShortForm form n) where
   pub short-text : take (length form - (n + 1)) (drop (n + 1) form) ≡ textIn form
   short-text = to-end form (n + 1) ∙ sym (h .text)
@@ -93,81 +133,87 @@ module _ {form : Bytes} {n : ℕ} (h : ShortForm form n) where
   pub short-length : n ≡ length (tagIn form)
   short-length = rw (h .tag) (sym (length-take-le n (drop 1 form) (simp length-drop (omega (arith, h .within)))))
 
--- ---- a long tag
+  pub short-pair : pairRefusal (take (length form - (n + 1)) (drop (n + 1) form)) (take (n + 1 - 1) (drop 1 form)) ≡ pairRefusal (textIn form) (tagIn form)
+  short-pair = rw (short-text, short-tag)
 
--- Where the first '>' stands.
-module _ (s : Bytes) (end : ℕ) (e : end ≡ length (before s)) where
-  pub before-at : take end s ≡ before s
-  before-at = rw e (take-before s)
+  pub short-low : accepted form ≡ true → n ≤ 127
+  short-low p =
+      let i = split-is form (F.Short n) (h .split) in
+      accepted-short n (drop 1 form) (i .filled) (ap accepted (i .whole) ∙ p) .low
 
-  pub behind-at : end < length s → take (length s - (end + 1)) (drop (end + 1) s) ≡ behind s
-  behind-at l = to-end s (end + 1) ∙ rw (add-one, e) (sym (before-split s (omega arith) .1))
+  pub short-taken : n ≤ 127 → pairRefusal (textIn form) (tagIn form) ≡ none → accepted form ≡ true
+  short-taken l q =
+      let i = split-is form (F.Short n) (h .split) in
+      let p = short-form n (drop 1 form) (i .filled) in
+      ap accepted (sym (i .whole))
+      ∙ short-accepted n (drop 1 form) (i .filled)
+      (record { low = l; within = i .within; pair = rw (← p .0, ← p .1, i .whole) q })
 
-  -- The bytes before it scan well in an accepted form, and only where they are an escaped tag.
-  pub scans : Long s → scanFrom (Plain 0) (take end s) ≡ Plain (length (unescaped false (before s)))
-  scans h =
-      let tag = unescaped false (before s) in
-      ap (λ (x : Bytes). scanFrom (Plain 0) x) (before-at ∙ sym (h .form))
-      ∙ scan-escaped tag 0
-      ∙ ap Plain (zero-add (length tag))
-
-  pub scanned-tag : (n : ℕ) → scanFrom (Plain 0) (take end s) ≡ Plain n
-      → (escaped (unescaped false (before s)) ≡ before s) × (n ≡ length (unescaped false (before s)))
-  scanned-tag n p = scan-good (before s) n (rw before-at at p)
-
-  pub tag-text : escaped (unescaped false (before s)) ≡ before s → isText (take end s) ≡ isText (unescaped false (before s))
-  tag-text p = ap isText (before-at ∙ sym p) ∙ text-escaped (unescaped false (before s))
-
-pub whole-long : (form : Bytes) → 0 < length form → getD form 0 0 ≡ 0 → 0 ∷ take (length form - 1) (drop 1 form) ≡ form
-whole-long form l z = ap (λ (s : Bytes). 0 ∷ s) (to-end form 1) ∙ ap (λ (n : ℕ). n ∷ drop 1 form) (sym z) ∙ whole form l
-
-module _ (form s : Bytes) (w : 0 ∷ s ≡ form) where
-  pub long-cut : (Long s → ⊥) → F.Cut ≡ formOf form
-  long-cut never = cut-is form (not-accepted form (λ p. never (accepted-long s (ap accepted w ∙ p))))
-
-  pub long-found : (end n : ℕ) → end ≡ length (before s) → n ≡ length (unescaped false (before s)) → Long s → F.Long end n ≡ formOf form
-  unfolding formOf
-  long-found end n e f h = subst (λ (x : Bytes). F.Long end n ≡ formOf x) w (rw (long-accepted s h, e, f))
-
-  long-located : (end n : ℕ) → end ≡ length (before s) → n ≡ length (unescaped false (before s)) → Long s → LongForm form end n
-  unfolding textIn tagIn
-  long-located end n e f h =
-      let g : end + 2 ≡ suc (suc end) = omega arith in
-      subst (λ (x : Bytes). LongForm x end n) w
-      (record {
-        taken = long-accepted s h;
-        tag = h .form ∙ sym (before-at s end e);
-        text = before-split s (h .ended) .1 ∙ ap (λ (k : ℕ). drop (suc k) s) (sym e) ∙ ap (λ (k : ℕ). drop k (0 ∷ s)) (sym g);
-        within = omega (arith, h .ended);
-        tagLength = sym f;
-      })
-
+-- The same of long ones.
 module _ {form : Bytes} {end n : ℕ} (h : LongForm form end n) where
   pub long-text : take (length form - (end + 2)) (drop (end + 2) form) ≡ textIn form
   long-text = to-end form (end + 2) ∙ sym (h .text)
 
+  pub long-escaped : take (end + 1 - 1) (drop 1 form) ≡ escaped (tagIn form)
+  long-escaped = behind-first form end ∙ sym (h .tag)
+
   pub long-tag : unescaped false (take (end + 1 - 1) (drop 1 form)) ≡ tagIn form
-  long-tag = rw (behind-first form end, ← h .tag) (read-escaped (tagIn form))
+  long-tag = rw long-escaped (read-escaped (tagIn form))
 
--- ---- every answer
+  pub long-low : n ≤ end
+  long-low = omega (
+    arith,
+    length-escaped (tagIn form) .1,
+    ap length (h .tag),
+    length-take-le end (drop 1 form) (simp length-drop (omega (arith, h .within))),
+    h .tagLength,
+  )
 
-taken-located : (form : Bytes) → accepted form ≡ true → Located form (formOf form)
-taken-located [] p = clash p empty-cut
-taken-located (n ∷ s) p = go (split (eqb n 0))
-  where
-    go : Split (eqb n 0) → Located (n ∷ s) (formOf (n ∷ s))
-    go (inl q) =
-        let w : 0 ∷ s ≡ n ∷ s = ap (λ (b : ℕ). b ∷ s) (sym (eqb-true n 0 q)) in
-        let h : Long s = accepted-long s (ap accepted w ∙ p) in
-        subst (λ (r : Form). Located (n ∷ s) r) (long-found (n ∷ s) s w _ _ refl refl h) (long-located (n ∷ s) s w _ _ refl refl h)
-    go (inr q) =
-        let z : n ≢ 0 = eqb-false n 0 q in
-        let h : Short n s = accepted-short n s z p in
-        subst (λ (r : Form). Located (n ∷ s) r) (short-found (n ∷ s) s n refl z h) (short-located (n ∷ s) s n refl z h)
+  pub long-is-text : isText (take (end + 1 - 1) (drop 1 form)) ≡ isText (tagIn form)
+  long-is-text = ap isText long-escaped ∙ text-escaped (tagIn form)
 
-pub form-located : (form : Bytes) → Located form (formOf form)
-form-located form = go (split (accepted form))
-  where
-    go : Split (accepted form) → Located form (formOf form)
-    go (inl p) = taken-located form p
-    go (inr p) = subst (λ (r : Form). Located form r) (cut-is form p) p
+  pub long-high : accepted form ≡ true → 127 < n
+  long-high p =
+      let i = split-is form (F.Long end n) (h .split) in
+      omega (arith, accepted-long (drop 1 form) (ap accepted (i .whole) ∙ p) .high, i .size)
+
+  pub long-taken : 127 < n → pairRefusal (textIn form) (tagIn form) ≡ none → accepted form ≡ true
+  unfolding textIn tagIn
+  long-taken l q =
+      let i = split-is form (F.Long end n) (h .split) in
+      ap accepted (sym (i .whole))
+      ∙ long-accepted (drop 1 form)
+      (record {
+        ended = i .ended;
+        form = i .tag;
+        high = omega (arith, i .size);
+        pair = ap (λ (x : Bytes). pairRefusal (textIn x) (tagIn x)) (i .whole) ∙ q;
+      })
+
+-- ---- the forms that packing makes
+
+abbrev pub Located : Bytes → Form → Type 0
+Located form (F.Short n) = (accepted form ≡ true) × ShortForm form n
+Located form (F.Long end n) = (accepted form ≡ true) × LongForm form end n
+Located form F.Cut = accepted form ≡ false
+
+module _ (form : Bytes) where
+  pub taken-form : accepted form ≡ true → splitOf form ≡ formOf form
+  unfolding formOf
+  taken-form p = rw p
+
+  pub cut-form : (accepted form ≡ true → ⊥) → F.Cut ≡ formOf form
+  unfolding formOf
+  cut-form never = rw (not-accepted form never)
+
+  taken-parts : accepted form ≡ true → (r : Form) → splitOf form ≡ r → Located form r
+  taken-parts p (F.Short n) e = (p, split-parts form (F.Short n) e)
+  taken-parts p (F.Long end n) e = (p, split-parts form (F.Long end n) e)
+  taken-parts p F.Cut e = split-parts form F.Cut e
+
+  pub form-parts : (r : Form) → formOf form ≡ r → Located form r
+  form-parts r e = go (split (accepted form))
+    where
+      go : Split (accepted form) → Located form r
+      go (inl p) = taken-parts p r (taken-form p ∙ e)
+      go (inr p) = subst (λ (x : Form). Located form x) (cut-form (λ q. clash q p) ∙ e) p

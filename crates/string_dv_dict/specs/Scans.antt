@@ -1,9 +1,9 @@
 -- What the functions below packing and unpacking find. Assumes nothing.
-use Prim.Native.Nat.{ℕ, zero, suc, _+_, _<_, _≤_}
+use Prim.Native.Nat.{ℕ, zero, _+_, _≤_}
 use mathlib.Core.Path.{_≡_}
-use mathlib.Core.Bool.{true, false, _||_, cond}
+use mathlib.Core.Bool.{false, cond}
 use mathlib.Core.List.{[], _∷_}
-use lib.Dec.{eqb}
+use lib.Dec.{eqb, leb, ltb}
 use lib.ListN.{length, take, drop}
 use Rattle.slices.specs.Bytes.{Bytes}
 use Rattle.parts.specs.Parts.{escaped}
@@ -11,7 +11,7 @@ use Rattle.string_dv_dict.specs.declared.Scan.{Scan}
 use Rattle.string_dv_dict.specs.declared.Scan.the-variants.{Plain, Escape, Bad}
 use Rattle.string_dv_dict.specs.declared.Form.{Form}
 use Rattle.string_dv_dict.specs.declared.Form.the-variants.{Short, Long, Cut}
-use Rattle.string_dv_dict.specs.Packed.{accepted, tagIn, textIn, before, unescaped}
+use Rattle.string_dv_dict.specs.Packed.{accepted, tagIn, textIn, before}
 
 -- One more byte of an escaped tag.
 abbrev pub scanStep : Scan → ℕ → Scan
@@ -28,30 +28,41 @@ scanned (Plain n) = n
 scanned (Escape n) = n
 scanned Bad = zero
 
--- What is known of a form whose parts were located.
+-- ---- where the parts of a form lie
+
+-- Behind 0: by the first '>', and the scan of what stands before it.
+abbrev pub longBy : ℕ → Scan → Form
+longBy end (Plain n) = Long end n
+longBy end (Escape n) = Cut
+longBy end Bad = Cut
+
+unfoldable pub longSplit : Bytes → Form
+longSplit s = cond (ltb (length (before s)) (length s)) (longBy (length (before s)) (scanFrom (Plain 0) (before s))) Cut
+
+-- By shape alone: a tag as long as the first byte says, or behind 0 an escaped tag up to the first '>'.
+unfoldable pub splitOf : Bytes → Form
+splitOf [] = Cut
+splitOf (n ∷ s) = cond (eqb n 0) (longSplit s) (cond (leb n (length s)) (Short n) Cut)
+
+-- The same where packing makes the form, Cut where it does not.
+unfoldable pub formOf : Bytes → Form
+formOf form = cond (accepted form) (splitOf form) Cut
+
+-- What is known of a form that was split.
 pub record ShortForm (form : Bytes) (n : ℕ) : Type 0 where
-  pub taken : accepted form ≡ true
+  pub split : splitOf form ≡ Short n
   pub tag : tagIn form ≡ take n (drop 1 form)
   pub text : textIn form ≡ drop (n + 1) form
   pub within : n + 1 ≤ length form
 
 pub record LongForm (form : Bytes) (end n : ℕ) : Type 0 where
-  pub taken : accepted form ≡ true
+  pub split : splitOf form ≡ Long end n
   pub tag : escaped (tagIn form) ≡ take end (drop 1 form)
   pub text : textIn form ≡ drop (end + 2) form
   pub within : end + 2 ≤ length form
   pub tagLength : length (tagIn form) ≡ n
 
--- Where the parts of a form lie: in a long one by its first '>'.
-abbrev pub shapeOf : Bytes → Form
-shapeOf [] = Cut
-shapeOf (n ∷ s) = cond (eqb n 0) (Long (length (before s)) (length (unescaped false (before s)))) (Short n)
-
-unfoldable pub formOf : Bytes → Form
-formOf form = cond (accepted form) (shapeOf form) Cut
-
--- What its answer says of a form.
-abbrev pub Located : Bytes → Form → Type 0
-Located form (Short n) = ShortForm form n
-Located form (Long end n) = LongForm form end n
-Located form Cut = accepted form ≡ false
+abbrev pub Splits : Bytes → Form → Type 0
+Splits form (Short n) = ShortForm form n
+Splits form (Long end n) = LongForm form end n
+Splits form Cut = accepted form ≡ false

@@ -4,16 +4,16 @@ use refusals::Refusal;
 use refusals::Written;
 ghost use mathlib.Core.Path.{_≡_};
 ghost use mathlib.Core.List.{_∷_, _++_};
-ghost use mathlib.Core.Bool.{false};
+ghost use mathlib.Core.Bool.{true, false};
 ghost use mathlib.Core.Option.{none};
 ghost use Prim.Native.Nat.{_+_, _^_, _≤_, _<_};
-ghost use lib.ListN.{length, drop, getD};
+ghost use lib.ListN.{length, drop};
 ghost use lib.Seq.{sets};
-ghost use Rattle.string_dv_dict.specs.Packed.{packed, pairRefusal, before, unescape, unescaped};
+ghost use Rattle.string_dv_dict.specs.Packed.{packed, pairRefusal, accepted, before, unescape, unescaped};
 ghost use Rattle.string_dv_dict.specs.Answers.{checkedBy, packAnswer, packBuffer, unpackAnswer, unpackBuffer};
 ghost use Rattle.limits.specs.Limits.{packedLimit};
 ghost use Rattle.parts.specs.Parts.{escaped, bytesOf};
-ghost use Rattle.string_dv_dict.specs.Scans.{scanStep, scanFrom, scanned, formOf, ShortForm, LongForm};
+ghost use Rattle.string_dv_dict.specs.Scans.{scanStep, scanFrom, scanned, longSplit, splitOf, formOf, ShortForm, LongForm};
 
 // Whether a text and a tag are a tagged string, or why not.
 pub enum Checked {
@@ -177,15 +177,42 @@ fn scan_tag(s: &[u8]) -> Scan
     state
 }
 
-fn locate_short(form: &[u8]) -> Form
-    requires { ⌜ (0 < length (now form)) × (0 < getD (now form) 0 0) ⌝ }
-    ensures { λ r. ⌜ r ≡ formOf (now (form .entry)) ⌝ }
+// A form behind its 0.
+fn split_long(s: &[u8]) -> Form
+    ensures { λ r. ⌜ r ≡ longSplit (now (s .entry)) ⌝ }
 {
-    let n = form[0] as usize;
-    if 127 < n {
+    let end = find_end(s);
+    if end == s.len() {
         return Form::Cut;
     }
-    if form.len() < n + 1 {
+    let Scan::Plain(n) = scan_tag(&s[..end]) else {
+        return Form::Cut;
+    };
+    Form::Long(end, n)
+}
+
+// Where the parts of a form would lie, by its shape alone: nothing is said of whether they are text, or which form packing would choose.
+pub fn split(form: &[u8]) -> Form
+    ensures { λ r. ⌜ r ≡ splitOf (now (form .entry)) ⌝ }
+{
+    if form.len() == 0 {
+        return Form::Cut;
+    }
+    let n = form[0] as usize;
+    if n == 0 {
+        return split_long(&form[1..]);
+    }
+    if form.len() <= n {
+        return Form::Cut;
+    }
+    Form::Short(n)
+}
+
+fn locate_short(form: &[u8], n: usize) -> Form
+    requires { ⌜ ShortForm (now form) n ⌝ }
+    ensures { λ r. ⌜ r ≡ formOf (now (form .entry)) ⌝ }
+{
+    if 127 < n {
         return Form::Cut;
     }
     let checked = check_pair(&form[n + 1..], &form[1..n + 1]);
@@ -195,22 +222,14 @@ fn locate_short(form: &[u8]) -> Form
     Form::Short(n)
 }
 
-fn locate_long(form: &[u8]) -> Form
-    requires { ⌜ (0 < length (now form)) × (getD (now form) 0 0 ≡ 0) ⌝ }
+fn locate_long(form: &[u8], end: usize, n: usize) -> Form
+    requires { ⌜ LongForm (now form) end n ⌝ }
     ensures { λ r. ⌜ r ≡ formOf (now (form .entry)) ⌝ }
 {
-    let s = &form[1..];
-    let end = find_end(s);
-    if end == s.len() {
-        return Form::Cut;
-    }
-    let Scan::Plain(n) = scan_tag(&s[..end]) else {
-        return Form::Cut;
-    };
     if n <= 127 {
         return Form::Cut;
     }
-    let text = &s[end + 1..];
+    let text = &form[end + 2..];
     if limits::name_limit() < text.len() + n {
         return Form::Cut;
     }
@@ -218,23 +237,20 @@ fn locate_long(form: &[u8]) -> Form
         return Form::Cut;
     }
     // Escaping changes no character into another, so the tag is text exactly if its escaped form is.
-    if !utf8::is_text(&s[..end]) {
+    if !utf8::is_text(&form[1..end + 1]) {
         return Form::Cut;
     }
     Form::Long(end, n)
 }
 
 // Where the parts of a packed form lie; Cut where packing makes no such form.
-pub fn locate(form: &[u8]) -> Form
+fn locate(form: &[u8]) -> Form
     ensures { λ r. ⌜ r ≡ formOf (now (form .entry)) ⌝ }
 {
-    if form.len() == 0 {
-        return Form::Cut;
-    }
-    if form[0] == 0 {
-        locate_long(form)
-    } else {
-        locate_short(form)
+    match split(form) {
+        Form::Short(n) => locate_short(form, n),
+        Form::Long(end, n) => locate_long(form, end, n),
+        Form::Cut => Form::Cut,
     }
 }
 
@@ -270,7 +286,7 @@ pub fn write_unescaped(s: &[u8], dst: &mut [u8], start: usize)
 }
 
 fn unpack_short(form: &[u8], n: usize, buffer: &mut [u8]) -> Unpacked
-    requires { ⌜ (length (now form) ≤ packedLimit) × ShortForm (now form) n ⌝ }
+    requires { ⌜ (length (now form) ≤ packedLimit) × (accepted (now form) ≡ true) × ShortForm (now form) n ⌝ }
     ensures { λ r. ⌜ (r ≡ unpackAnswer (now (form .entry)) (length (now (buffer .entry)))) × (now (buffer .exit) ≡ unpackBuffer (now (form .entry)) (now (buffer .entry))) ⌝ }
 {
     let text = &form[n + 1..];
@@ -284,7 +300,7 @@ fn unpack_short(form: &[u8], n: usize, buffer: &mut [u8]) -> Unpacked
 }
 
 fn unpack_long(form: &[u8], end: usize, n: usize, buffer: &mut [u8]) -> Unpacked
-    requires { ⌜ (length (now form) ≤ packedLimit) × LongForm (now form) end n ⌝ }
+    requires { ⌜ (length (now form) ≤ packedLimit) × (accepted (now form) ≡ true) × LongForm (now form) end n ⌝ }
     ensures { λ r. ⌜ (r ≡ unpackAnswer (now (form .entry)) (length (now (buffer .entry)))) × (now (buffer .exit) ≡ unpackBuffer (now (form .entry)) (now (buffer .entry))) ⌝ }
 {
     let text = &form[end + 2..];

@@ -4,17 +4,17 @@ use mathlib.Core.Path.{_≡_, sym, ap, _∙_}
 use native.Mathlib.Omega.{arith}
 use lib.ListN.{take, drop}
 use Rattle.string_dv_dict.specs.declared.Form.{Form}
-use Rattle.string_dv_dict.specs.Scans.{formOf}
+use Rattle.string_dv_dict.specs.Scans.{splitOf}
 use Rattle.locate.proofs.Strings.{short-within, long-within, located-short, located-long, located-cut}
 use borrow.Author.Needs.{needs}
 use Rattle.locate.proofs.locate_tagged.Statement.{statement}
 use Rattle.locate.proofs.locate_tagged.Tie as tie
 
--- What the located form says of the entry.
-form : (c : tie.After-locate) (r : Form) → c .locate .result ≡ r →
+-- What the split says of the entry.
+form : (c : tie.After-split) (r : Form) → c .split .result ≡ r →
     let a = c .before .before .before .before .args in
-    formOf (take (a .len) (drop (a .at) (a .pages .now))) ≡ r
-form c r e = ap formOf (sym (c .before .id-to-bytes .ensures)) ∙ sym (c .locate .ensures) ∙ e
+    splitOf (take (a .len) (drop (a .at) (a .pages .now))) ≡ r
+form c r e = ap splitOf (sym (c .before .id-to-bytes .ensures)) ∙ sym (c .split .ensures) ∙ e
 
 short : (c : tie.After-known-told) → c .before .n .given .0 .0 + 1 ≤ c .before .before .before .before .before .before .before .args .len
 short c =
@@ -29,8 +29,8 @@ long c =
 id-to-bytes-requires : tie.Need-id-to-bytes-requires
 id-to-bytes-requires c κs = search needs
 
-locate-requires : tie.Need-locate-requires
-locate-requires c κs = search needs
+split-requires : tie.Need-split-requires
+split-requires c κs = search needs
 
 enum-known-n : tie.Need-enum-known-n
 enum-known-n c = search needs
@@ -103,7 +103,7 @@ locate-tagged-spec =
     tie.close
     (tie.spec
     id-to-bytes-requires
-    locate-requires
+    split-requires
     enum-known-n
     add-t12
     sub-t13

@@ -1,13 +1,12 @@
 -- Each refusal, and either form. Assumes nothing.
 use Prim.Native.Nat.{_≤_}
-use mathlib.Core.Path.{_≡_, sym, subst, _∙_}
+use mathlib.Core.Path.{_≡_, sym, _∙_}
 use native.Mathlib.Omega.{arith}
 use lib.ListN.{length}
 use borrow.Author.Needs.{needs}
 use Rattle.limits.specs.Limits.{packedLimit}
 use Rattle.string_dv_dict.specs.declared.Form.{Form}
-use Rattle.string_dv_dict.specs.Scans.{Located}
-use Rattle.string_dv_dict.proofs.Located.{form-located}
+use Rattle.string_dv_dict.proofs.Located.{Located, form-parts}
 use Rattle.string_dv_dict.proofs.Answers.{unpack-long-form, unpack-cut}
 use Rattle.string_dv_dict.proofs.one_string_to_two.Statement.{statement}
 use Rattle.string_dv_dict.proofs.one_string_to_two.Tie as tie
@@ -17,9 +16,7 @@ size c = omega (arith, c .if1 .left, c .before .packed-limit .ensures)
 
 -- What was located, by the answer.
 located : (c : tie.After-locate) (r : Form) → c .locate .result ≡ r → Located (c .before .before .before .before .before .args .form .now) r
-located c r e =
-    let form = c .before .before .before .before .before .args .form .now in
-    subst (λ (x : Form). Located form x) (sym (c .locate .ensures) ∙ e) (form-located form)
+located c r e = form-parts (c .before .before .before .before .before .args .form .now) r (sym (c .locate .ensures) ∙ e)
 
 packed-limit-requires : tie.Need-packed-limit-requires
 packed-limit-requires c κs = search needs
@@ -39,7 +36,8 @@ enum-known-n c = search needs
 unpack-short-requires : tie.Need-unpack-short-requires
 unpack-short-requires c κs =
     let a = c .before .before .before .before in
-    (size (a .before), located a _ (c .before .before .n .given .1))
+    let l = located a _ (c .before .before .n .given .1) in
+    (size (a .before), l .0, l .1)
 
 enum-known-end : tie.Need-enum-known-end
 enum-known-end c = search needs
@@ -47,7 +45,8 @@ enum-known-end c = search needs
 unpack-long-requires : tie.Need-unpack-long-requires
 unpack-long-requires c κs =
     let a = c .before .before .before .before in
-    (size (a .before), located a _ (c .before .before .end .given .1))
+    let l = located a _ (c .before .before .end .given .1) in
+    (size (a .before), l .0, l .1)
 
 enum-told : tie.Need-enum-told
 enum-told c = search needs

@@ -18,7 +18,7 @@ room : (c : tie.Else1) →
     let z = c .before .before .before .before .args in
     length (textIn (z .form .now)) + length (tagIn (z .form .now)) ≤ length (z .buffer .now)
 room c =
-    let h = c .before .before .before .before .pre .1 in
+    let h = c .before .before .before .before .pre .2 in
     omega (arith, c .if1 .left, ap length (long-text h), h .tagLength)
 
 add-text : tie.Need-add-text
@@ -37,15 +37,15 @@ add-if1 : tie.Need-add-if1
 unfolding nameLimit
 add-if1 c =
     let z = c .before .before .before in
-    let h = z .pre .1 in
+    let h = z .pre .2 in
     let form = z .args .form .now in
-    omega (arith, ap length (long-text h), h .tagLength, legal (textIn form) (tagIn form) (unpack-pack form (h .taken) .0) .size)
+    omega (arith, ap length (long-text h), h .tagLength, legal (textIn form) (tagIn form) (unpack-pack form (z .pre .1) .0) .size)
 
 returns : tie.Need-returns
 returns c =
     let z = c .before .before .before .before in
-    let h = z .pre .1 in
-    let p = unpack-no-room (z .args .form .now) (z .args .buffer .now) (z .pre .0) (h .taken) (omega (arith, c .if1 .taken, ap length (long-text h), h .tagLength)) in
+    let h = z .pre .2 in
+    let p = unpack-no-room (z .args .form .now) (z .args .buffer .now) (z .pre .0) (z .pre .1) (omega (arith, c .if1 .taken, ap length (long-text h), h .tagLength)) in
     (sym (p .0), sym (p .1))
 
 write-at-requires : tie.Need-write-at-requires
@@ -68,7 +68,7 @@ write-unescaped-requires : tie.Need-write-unescaped-requires
 write-unescaped-requires c κs =
     let w = c .before .before .before .before in
     let e = w .before .before in
-    let h = e .before .before .before .before .pre .1 in
+    let h = e .before .before .before .before .pre .2 in
     omega (arith, room e, w .write-at .kept .1 .1 .0, ap length (long-text h), ap length (long-tag h))
 
 same-length : tie.Need-same-length
@@ -82,8 +82,8 @@ returns-2 c =
     let z = e .before .before .before .before in
     let form = z .args .form .now in
     let b = z .args .buffer .now in
-    let h = z .pre .1 in
-    let p = unpack-done form b (z .pre .0) (h .taken) (room e) in (
+    let h = z .pre .2 in
+    let p = unpack-done form b (z .pre .0) (z .pre .1) (room e) in (
       lengths (ap length (long-text h)) (sym (h .tagLength)) (p .0),
       c .before .before .write-unescaped .ensures
           ∙ rw (w .write-at .ensures, long-text h, long-tag h) (two (textIn form) (tagIn form) b (room e))

@@ -16,7 +16,7 @@ room : (c : tie.Else1) →
     let z = c .before .before .before .before .args in
     length (textIn (z .form .now)) + length (tagIn (z .form .now)) ≤ length (z .buffer .now)
 room c =
-    let h = c .before .before .before .before .pre .1 in
+    let h = c .before .before .before .before .pre .2 in
     omega (arith, c .if1 .left, ap length (short-text h), short-length h)
 
 add-text : tie.Need-add-text
@@ -37,8 +37,8 @@ add-if1 c = search needs
 returns : tie.Need-returns
 returns c =
     let z = c .before .before .before .before in
-    let h = z .pre .1 in
-    let p = unpack-no-room (z .args .form .now) (z .args .buffer .now) (z .pre .0) (h .taken) (omega (arith, c .if1 .taken, ap length (short-text h), short-length h)) in
+    let h = z .pre .2 in
+    let p = unpack-no-room (z .args .form .now) (z .args .buffer .now) (z .pre .0) (z .pre .1) (omega (arith, c .if1 .taken, ap length (short-text h), short-length h)) in
     (sym (p .0), sym (p .1))
 
 write-at-requires : tie.Need-write-at-requires
@@ -62,7 +62,7 @@ unfolding bytesOf
 write-at-requires-2 c κs =
     let w = c .before .before .before .before in
     let e = w .before .before in
-    let h = e .before .before .before .before .pre .1 in
+    let h = e .before .before .before .before .pre .2 in
     omega (arith, room e, w .write-at .kept .1 .1 .0, ap length (short-text h), ap length (short-tag h))
 
 same-length : tie.Need-same-length
@@ -76,8 +76,8 @@ returns-2 c =
     let z = e .before .before .before .before in
     let form = z .args .form .now in
     let b = z .args .buffer .now in
-    let h = z .pre .1 in
-    let p = unpack-done form b (z .pre .0) (h .taken) (room e) in (
+    let h = z .pre .2 in
+    let p = unpack-done form b (z .pre .0) (z .pre .1) (room e) in (
       lengths (ap length (short-text h)) (short-length h) (p .0),
       c .before .before .write-at2 .ensures
           ∙ rw (w .write-at .ensures, short-text h, short-tag h) (two (textIn form) (tagIn form) b (room e))
