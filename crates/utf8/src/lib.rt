@@ -122,10 +122,16 @@ fn pass_bytes(s: &[u8], i: usize) -> usize
     k
 }
 
+// Past plain bytes from i on. Where the next byte is not plain no word is looked at: in many scripts one such character follows another.
 fn pass_plain(s: &[u8], i: usize) -> usize
     requires { ⌜ i ≤ length (now s) ⌝ }
     ensures { λ r. ⌜ Passed (now (s .entry)) i r ⌝ }
 {
+    if i < s.len() {
+        if s[i] >= 0x80 {
+            return i;
+        }
+    }
     pass_bytes(s, pass_words(s, i))
 }
 
