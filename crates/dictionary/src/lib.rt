@@ -93,10 +93,15 @@ pub fn find(pages: &[u8], lists: &[u8], kind: usize, first: &[u8], second: &[u8]
     let Header::Opened(s) = layout::check_header(pages, lists) else {
         return FindResult::Refused(Refusal::Unopened);
     };
-    if let Checked::Illegal(why) = names::check_name(s, kind, first, second) {
+    if let Checked::Illegal(why) = names::check_shape(s, kind, first, second) {
         return FindResult::Refused(why);
     }
-    match search::find_name(pages, lists, s, kind, first, second) {
+    // The text is checked after the search, which does not wait for it.
+    let found = search::find_name(pages, lists, s, kind, first, second);
+    if let Checked::Illegal(why) = names::check_text(kind, first, second) {
+        return FindResult::Refused(why);
+    }
+    match found {
         Search::Found(local) => {
             let number = meta_dv_dict::local_to_global(lists, s, kind, local);
             let Number::Global(x) = number else {

@@ -1,4 +1,4 @@
-// A name's arguments: the kinds and their dictionaries, the check of refusals 4 to 7, and how a tag stands in its key.
+// A name's arguments: the kinds and their dictionaries, the check of refusals 4 to 7 in its two halves, and how a tag stands in its key.
 use bytes_dictionary::EntryId;
 use layout::KINDS;
 use layout::Sizes;
@@ -15,6 +15,7 @@ ghost use Rattle.string_dv_dict.specs.Answers.{checkedBy};
 ghost use Rattle.model.specs.Names.{entered};
 ghost use Rattle.model.specs.Kinds.{row};
 ghost use Rattle.model.specs.Steps.{badKind, checks};
+ghost use Rattle.names.specs.Checks.{shapeRefusal, textRefusal};
 ghost use Rattle.names.specs.Tags.{frontOf, modeOf};
 
 pub const IRI: usize = 0;
@@ -75,9 +76,9 @@ fn is_bad_kind(kind: usize, second: &[u8]) -> bool
     second.len() != 0
 }
 
-// Refusals 4 to 7 of a name. The sizes are there for a limit that depends on them; none does today.
-pub fn check_name(s: Sizes, kind: usize, first: &[u8], second: &[u8]) -> Checked
-    ensures { λ r. ⌜ r ≡ checkedBy (checks s (entered kind (now (first .entry)) (now (second .entry)))) ⌝ }
+// Refusals 4 and 5 of a name. The sizes are there for a limit that depends on them; none does today.
+pub fn check_shape(s: Sizes, kind: usize, first: &[u8], second: &[u8]) -> Checked
+    ensures { λ r. ⌜ r ≡ checkedBy (shapeRefusal s (entered kind (now (first .entry)) (now (second .entry)))) ⌝ }
 {
     if is_bad_kind(kind, second) {
         return Checked::Illegal(Refusal::BadKind);
@@ -85,6 +86,13 @@ pub fn check_name(s: Sizes, kind: usize, first: &[u8], second: &[u8]) -> Checked
     if limits::name_limit() < first.len() + second.len() {
         return Checked::Illegal(Refusal::TooLong);
     }
+    Checked::Legal
+}
+
+// Refusals 6 and 7 of a name.
+pub fn check_text(kind: usize, first: &[u8], second: &[u8]) -> Checked
+    ensures { λ r. ⌜ r ≡ checkedBy (textRefusal (entered kind (now (first .entry)) (now (second .entry)))) ⌝ }
+{
     if !utf8::is_text(first) {
         return Checked::Illegal(Refusal::NotText);
     }
@@ -95,6 +103,16 @@ pub fn check_name(s: Sizes, kind: usize, first: &[u8], second: &[u8]) -> Checked
         return Checked::Illegal(Refusal::NoTag);
     }
     Checked::Legal
+}
+
+// Refusals 4 to 7 of a name.
+pub fn check_name(s: Sizes, kind: usize, first: &[u8], second: &[u8]) -> Checked
+    ensures { λ r. ⌜ r ≡ checkedBy (checks s (entered kind (now (first .entry)) (now (second .entry)))) ⌝ }
+{
+    if let Checked::Illegal(why) = check_shape(s, kind, first, second) {
+        return Checked::Illegal(why);
+    }
+    check_text(kind, first, second)
 }
 
 // What stands in front of a stored tag: its length, or 0 for a long one.

@@ -9,7 +9,8 @@ use Rattle.meta_dv_dict.specs.Answers.{Globals}
 use Rattle.string_dv_dict.proofs.Answers.{told-legal, told-illegal}
 use Rattle.model.specs.Names.{entered}
 use Rattle.model.specs.Steps.{checks}
-use Rattle.model.proofs.Legal.{legal-kind}
+use Rattle.names.specs.Checks.{shapeRefusal}
+use Rattle.names.proofs.Checks.{shape-refused, text-decides, shape-kind}
 use Rattle.search.specs.declared.Search.the-variants.{Found}
 use Rattle.search.specs.Found.{Lent, FindsName}
 use Rattle.dictionary.proofs.Headers.{header, in-range}
@@ -24,34 +25,46 @@ opened : (c : tie.After-s) →
     headerOf (length (a .pages .now)) (a .lists .now) ≡ Opened (c .s .given .0 .0)
 opened c = sym (c .before .before .check-header .ensures) ∙ c .s .given .1
 
--- The name is legal.
-legal : (c : tie.After-enum-told2) →
-    let a = c .before .before .before .before .before .before .before .before .before .before .before .args in
-    checks (c .before .before .before .before .s .given .0 .0) (entered (a .kind) (a .first .now) (a .second .now)) ≡ none
-legal c = told-legal _ (sym (c .before .before .check-name .ensures) ∙ c .enum-told2 .given .1)
+-- The name's shape is legal.
+shaped : (c : tie.After-enum-told2) →
+    let o = c .before .before .before .before in
+    let a = o .before .before .before .before .before .before .before .args in
+    shapeRefusal (o .s .given .0 .0) (entered (a .kind) (a .first .now) (a .second .now)) ≡ none
+shaped c = told-legal _ (sym (c .before .before .check-shape .ensures) ∙ c .enum-told2 .given .1)
 
 lent : (c : tie.After-enum-told2) →
-    let a = c .before .before .before .before .before .before .before .before .before .before .before .args in
-    Lent (c .before .before .before .before .s .given .0 .0) (a .pages .now) (a .lists .now) (a .kind)
+    let o = c .before .before .before .before in
+    let a = o .before .before .before .before .before .before .before .args in
+    Lent (o .s .given .0 .0) (a .pages .now) (a .lists .now) (a .kind)
 lent c =
-    let a = c .before .before .before .before .before .before .before .before .before .before .before .args in
-    let s = c .before .before .before .before .s .given .0 .0 in
-    let h = header (a .pages .now) (a .lists .now) s (opened (c .before .before .before .before)) in
+    let o = c .before .before .before .before in
+    let a = o .before .before .before .before .before .before .before .args in
+    let s = o .s .given .0 .0 in
+    let h = header (a .pages .now) (a .lists .now) s (opened o) in
     record {
-      ranged = in-range (a .pages .now) (a .lists .now) s (opened (c .before .before .before .before));
+      ranged = in-range (a .pages .now) (a .lists .now) s (opened o);
       pages-fit = h .pages-fit;
       lists-fit = h .lists-fit;
-      kinded = legal-kind s (entered (a .kind) (a .first .now) (a .second .now)) (legal c);
+      kinded = shape-kind s (entered (a .kind) (a .first .now) (a .second .now)) (shaped c);
     }
 
+-- The whole name is legal.
+legal : (c : tie.After-enum-told3) →
+    let o = c .before .before .before .before .before .before .before .before in
+    let a = o .before .before .before .before .before .before .before .args in
+    checks (o .s .given .0 .0) (entered (a .kind) (a .first .now) (a .second .now)) ≡ none
+legal c = text-decides _ _ (shaped (c .before .before .before .before)) ∙ told-legal _ (sym (c .before .before .check-text .ensures) ∙ c .enum-told3 .given .1)
+
 -- Its local number.
-found : (c : tie.After-local) →
-    let a = c .before .before .before .before .before .before .before .before .before .before .before .before .before .before .args in
-    FindsName (c .before .before .before .before .before .before .before .s .given .0 .0) (λ b. b ≡ entered (a .kind) (a .first .now) (a .second .now)) (a .pages .now) (a .lists .now) (Found (c .local .given .0 .0))
-found c =
-    let a = c .before .before .before .before .before .before .before .before .before .before .before .before .before .before .args in
-    subst (FindsName (c .before .before .before .before .before .before .before .s .given .0 .0) (λ b. b ≡ entered (a .kind) (a .first .now) (a .second .now)) (a .pages .now) (a .lists .now)) (c .local .given .1)
-    (c .before .before .find-name .ensures)
+located : (c : tie.After-found) →
+    let o = c .before .before .before .before .before .before .before .before .before .before in
+    let a = o .before .before .before .before .before .before .before .args in
+    FindsName (o .s .given .0 .0) (λ b. b ≡ entered (a .kind) (a .first .now) (a .second .now)) (a .pages .now) (a .lists .now) (Found (c .found .given .0 .0))
+located c =
+    let o = c .before .before .before .before .before .before .before .before .before .before in
+    let a = o .before .before .before .before .before .before .before .args in
+    subst (FindsName (o .s .given .0 .0) (λ b. b ≡ entered (a .kind) (a .first .now) (a .second .now)) (a .pages .now) (a .lists .now)) (c .found .given .1)
+    (c .before .before .before .before .before .find-name .ensures)
 
 check-header-requires : tie.Need-check-header-requires
 check-header-requires c κs = search needs
@@ -67,17 +80,18 @@ returns c =
     let a = c .before .before .before .before .before .before .before .args in
     find-unopened (a .pages .now) (a .lists .now) (entered (a .kind) (a .first .now) (a .second .now)) (sym (c .before .before .check-header .ensures) ∙ c .enum-told .given .1)
 
-check-name-requires : tie.Need-check-name-requires
-check-name-requires c κs = search needs
+check-shape-requires : tie.Need-check-shape-requires
+check-shape-requires c κs = search needs
 
 enum-known-why : tie.Need-enum-known-why
 enum-known-why c = search needs
 
 returns-2 : tie.Need-returns-2
 returns-2 c =
-    let a = c .before .before .before .before .before .before .before .before .before .before .before .before .args in
-    find-illegal (a .pages .now) (a .lists .now) (c .before .before .before .before .before .s .given .0 .0) (opened (c .before .before .before .before .before)) (entered (a .kind) (a .first .now) (a .second .now)) _
-    (told-illegal _ _ (sym (c .before .before .before .check-name .ensures) ∙ c .before .why .given .1))
+    let o = c .before .before .before .before .before in
+    let a = o .before .before .before .before .before .before .before .args in
+    find-illegal (a .pages .now) (a .lists .now) (o .s .given .0 .0) (opened o) (entered (a .kind) (a .first .now) (a .second .now)) _
+    (shape-refused _ _ _ (told-illegal _ _ (sym (c .before .before .before .check-shape .ensures) ∙ c .before .why .given .1)))
 
 enum-told-2 : tie.Need-enum-told-2
 enum-told-2 c = search needs
@@ -85,51 +99,80 @@ enum-told-2 c = search needs
 find-name-requires : tie.Need-find-name-requires
 find-name-requires c κs = lent c
 
-enum-known-local : tie.Need-enum-known-local
-enum-known-local c = search needs
+check-text-requires : tie.Need-check-text-requires
+check-text-requires c κs = search needs
+
+enum-known-why-2 : tie.Need-enum-known-why-2
+enum-known-why-2 c = search needs
+
+returns-3 : tie.Need-returns-3
+returns-3 c =
+    let h = c .before .before .before .before .before in
+    let o = h .before .before .before .before in
+    let a = o .before .before .before .before .before .before .before .args in
+    find-illegal (a .pages .now) (a .lists .now) (o .s .given .0 .0) (opened o) (entered (a .kind) (a .first .now) (a .second .now)) _
+    (text-decides _ _ (shaped h) ∙ told-illegal _ _ (sym (c .before .before .before .check-text .ensures) ∙ c .before .why2 .given .1))
+
+enum-told-3 : tie.Need-enum-told-3
+enum-told-3 c = search needs
+
+enum-known-found : tie.Need-enum-known-found
+enum-known-found c = search needs
 
 local-to-global-requires : tie.Need-local-to-global-requires
 local-to-global-requires c κs =
-    let l = lent (c .before .before .before .before) in
+    let l = lent (c .before .before .before .before .before .before .before) in
     (l .ranged, l .lists-fit, omega (arith, l .kinded))
 
 enum-known-number : tie.Need-enum-known-number
 enum-known-number c = search needs
 
-enum-told-3 : tie.Need-enum-told-3
-enum-told-3 c = search needs
-
-returns-3 : tie.Need-returns-3
-returns-3 c =
-    let a = c .before .before .before .before .before .before .before .before .before .before .before .before .before .before .before .before .before .before .args in
-    find-bad-number (a .pages .now) (a .lists .now) (c .before .before .before .before .before .before .before .before .before .before .before .s .given .0 .0) (opened (c .before .before .before .before .before .before .before .before .before .before .before)) (entered (a .kind) (a .first .now) (a .second .now)) (legal (c .before .before .before .before .before .before .before)) _ (found (c .before .before .before .before))
-    (subst (Globals (c .before .before .before .before .before .before .before .before .before .before .before .s .given .0 .0) (a .lists .now) (a .kind) (c .before .before .before .before .local .given .0 .0 .0)) (c .enum-told3 .given .1) (c .before .before .local-to-global .ensures))
-
 enum-told-4 : tie.Need-enum-told-4
 enum-told-4 c = search needs
+
+returns-4 : tie.Need-returns-4
+returns-4 c =
+    let f = c .before .before .before .before in
+    let t = f .before .before in
+    let o = t .before .before .before .before .before .before .before .before in
+    let a = o .before .before .before .before .before .before .before .args in
+    let s = o .s .given .0 .0 in
+    find-bad-number (a .pages .now) (a .lists .now) s (opened o) (entered (a .kind) (a .first .now) (a .second .now)) (legal t) _ (located f)
+    (subst (Globals s (a .lists .now) (a .kind) (f .found .given .0 .0 .0)) (c .enum-told4 .given .1) (c .before .before .local-to-global .ensures))
 
 enum-told-5 : tie.Need-enum-told-5
 enum-told-5 c = search needs
 
-returns-4 : tie.Need-returns-4
-returns-4 c =
-    let a = c .before .before .before .before .before .before .before .before .before .before .before .before .before .before .before .before .before .before .before .args in
-    find-known (a .pages .now) (a .lists .now) (c .before .before .before .before .before .before .before .before .before .before .before .before .s .given .0 .0) (opened (c .before .before .before .before .before .before .before .before .before .before .before .before)) (entered (a .kind) (a .first .now) (a .second .now)) (legal (c .before .before .before .before .before .before .before .before)) _ (found (c .before .before .before .before .before)) (c .before .number .given .0 .0)
-    (subst (Globals (c .before .before .before .before .before .before .before .before .before .before .before .before .s .given .0 .0) (a .lists .now) (a .kind) (c .before .before .before .before .before .local .given .0 .0 .0)) (c .before .number .given .1) (c .before .before .before .local-to-global .ensures))
+enum-told-6 : tie.Need-enum-told-6
+enum-told-6 c = search needs
 
 returns-5 : tie.Need-returns-5
 returns-5 c =
-    let a = c .before .before .before .before .before .before .before .before .before .before .before .before .before .before .args in
-    let s = c .before .before .before .before .before .before .before .s .given .0 .0 in
-    find-none (a .pages .now) (a .lists .now) s (opened (c .before .before .before .before .before .before .before)) (entered (a .kind) (a .first .now) (a .second .now)) (legal (c .before .before .before))
-    (subst (FindsName s (λ b. b ≡ entered (a .kind) (a .first .now) (a .second .now)) (a .pages .now) (a .lists .now)) (c .enum-told4 .given .1) (c .before .before .find-name .ensures))
+    let f = c .before .before .before .before .before in
+    let t = f .before .before in
+    let o = t .before .before .before .before .before .before .before .before in
+    let a = o .before .before .before .before .before .before .before .args in
+    let s = o .s .given .0 .0 in
+    find-known (a .pages .now) (a .lists .now) s (opened o) (entered (a .kind) (a .first .now) (a .second .now)) (legal t) _ (located f) (c .before .number .given .0 .0)
+    (subst (Globals s (a .lists .now) (a .kind) (f .found .given .0 .0 .0)) (c .before .number .given .1) (c .before .before .before .local-to-global .ensures))
 
 returns-6 : tie.Need-returns-6
 returns-6 c =
-    let a = c .before .before .before .before .before .before .before .before .before .before .before .before .before .before .args in
-    let s = c .before .before .before .before .before .before .before .s .given .0 .0 in
-    find-bad (a .pages .now) (a .lists .now) s (opened (c .before .before .before .before .before .before .before)) (entered (a .kind) (a .first .now) (a .second .now)) (legal (c .before .before .before))
-    (subst (FindsName s (λ b. b ≡ entered (a .kind) (a .first .now) (a .second .now)) (a .pages .now) (a .lists .now)) (c .enum-told5 .given .1) (c .before .before .find-name .ensures))
+    let t = c .before .before in
+    let o = t .before .before .before .before .before .before .before .before in
+    let a = o .before .before .before .before .before .before .before .args in
+    let s = o .s .given .0 .0 in
+    find-none (a .pages .now) (a .lists .now) s (opened o) (entered (a .kind) (a .first .now) (a .second .now)) (legal t)
+    (subst (FindsName s (λ b. b ≡ entered (a .kind) (a .first .now) (a .second .now)) (a .pages .now) (a .lists .now)) (c .enum-told5 .given .1) (c .before .before .before .before .before .find-name .ensures))
+
+returns-7 : tie.Need-returns-7
+returns-7 c =
+    let t = c .before .before in
+    let o = t .before .before .before .before .before .before .before .before in
+    let a = o .before .before .before .before .before .before .before .args in
+    let s = o .s .given .0 .0 in
+    find-bad (a .pages .now) (a .lists .now) s (opened o) (entered (a .kind) (a .first .now) (a .second .now)) (legal t)
+    (subst (FindsName s (λ b. b ≡ entered (a .kind) (a .first .now) (a .second .now)) (a .pages .now) (a .lists .now)) (c .enum-told6 .given .1) (c .before .before .before .before .before .find-name .ensures))
 
 pub find-spec : {M : Type 1} → statement M
 find-spec =
@@ -139,18 +182,22 @@ find-spec =
     enum-known-s
     enum-told
     returns
-    check-name-requires
+    check-shape-requires
     enum-known-why
     returns-2
     enum-told-2
     find-name-requires
-    enum-known-local
+    check-text-requires
+    enum-known-why-2
+    returns-3
+    enum-told-3
+    enum-known-found
     local-to-global-requires
     enum-known-number
-    enum-told-3
-    returns-3
     enum-told-4
-    enum-told-5
     returns-4
+    enum-told-5
+    enum-told-6
     returns-5
-    returns-6)
+    returns-6
+    returns-7)

@@ -1,0 +1,41 @@
+-- The two halves of a name's check make the whole. Assumes nothing.
+use Prim.Native.Nat.{_<_}
+use mathlib.Core.Path.{_≡_, _∙_}
+use mathlib.Core.Logic.{inl, inr}
+use mathlib.Core.Option.{Option, none, some}
+use borrow.Author.Tests.{leb-false}
+use lib.Dec.{leb, ltb}
+use Rattle.slices.proofs.Tests.{Split, split, or-left, passed}
+use Rattle.refusals.specs.declared.Refusal.{Refusal}
+use Rattle.refusals.specs.declared.Refusal.the-variants.{BadKind}
+use Rattle.layout.specs.declared.Sizes.{Sizes}
+use Rattle.layout.specs.Sizes.{kinds}
+use Rattle.model.specs.Names.{Name, size, limit}
+use Rattle.model.specs.Steps.{badKind, checks}
+use Rattle.names.specs.Checks.{shapeRefusal, textRefusal}
+
+-- The first half's refusal if there is one, else the second's.
+abbrev pub firstOf : Option Refusal → Option Refusal → Option Refusal
+firstOf (some why) o = some why
+firstOf none o = o
+
+module _ (s : Sizes) (a : Name) where
+  pub halves : checks s a ≡ firstOf (shapeRefusal s a) (textRefusal a)
+  unfolding checks shapeRefusal textRefusal
+  halves = go (split (badKind a)) (split (ltb (limit s) (size a)))
+    where
+      go : Split (badKind a) → Split (ltb (limit s) (size a)) → checks s a ≡ firstOf (shapeRefusal s a) (textRefusal a)
+      go (inl k) l = rw k
+      go (inr k) (inl l) = rw (k, l)
+      go (inr k) (inr l) = rw (k, l)
+
+  pub shape-refused : (why : Refusal) → shapeRefusal s a ≡ some why → checks s a ≡ some why
+  shape-refused why e = halves ∙ rw e
+
+  pub text-decides : shapeRefusal s a ≡ none → checks s a ≡ textRefusal a
+  text-decides e = halves ∙ rw e
+
+  -- A name of legal shape has one of the four kinds.
+  pub shape-kind : shapeRefusal s a ≡ none → a .kind < kinds
+  unfolding shapeRefusal
+  shape-kind e = leb-false kinds (a .kind) (or-left (leb kinds (a .kind)) _ (passed (badKind a) BadKind _ e .0))
