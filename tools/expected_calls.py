@@ -1,129 +1,17 @@
 #!/usr/bin/env python3
-"""Prints what the programs `calls`, `edges` and `capacity` must write: their files `stdout` are this program's output.
+"""Prints the calls that the program `calls` is to make, its file `stdin`, or what it must then write, its file `stdout`.
 
-The answers come from document 01's rules, written down here a second time: the names, the pages, the blocks and
-the refusals are kept in Python's own lists and sets, and no memory is laid out.
+Each call of the lists below becomes a line of `stdin`, and what is to be printed for it goes to `stdout`. The heads of
+crates/calls/src/run.rt and script.rt say how the lines of `stdin` are written. The answers come from document 01's
+rules, as tools/rules.py has them.
 
-  python3 tools/expected_calls.py calls > crates/calls/stdout
-  python3 tools/expected_calls.py edges > crates/edges/stdout
-  python3 tools/expected_calls.py capacity > crates/capacity/stdout
+  python3 tools/expected_calls.py stdin > crates/calls/stdin
+  python3 tools/expected_calls.py stdout > crates/calls/stdout
 """
 import itertools
-import re
 import sys
 
-LONGEST = 4000
-RANGES = [(13, 20), (1, 1024), (1, 1048576), (4, 24), (1, 4096)]  # p, N, E, w, B
-
-# RFC 3629, section 4.
-UTF8 = re.compile(
-    rb"(?:[\x00-\x7F]|[\xC2-\xDF][\x80-\xBF]"
-    rb"|\xE0[\xA0-\xBF][\x80-\xBF]|[\xE1-\xEC][\x80-\xBF]{2}|\xED[\x80-\x9F][\x80-\xBF]|[\xEE-\xEF][\x80-\xBF]{2}"
-    rb"|\xF0[\x90-\xBF][\x80-\xBF]{2}|[\xF1-\xF3][\x80-\xBF]{3}|\xF4[\x80-\x8F][\x80-\xBF]{2})*")
-
-
-class Refused(Exception):
-    pass
-
-
-def refuse_if(fact, number):
-    if fact:
-        raise Refused(number)
-
-
-# ---- the rules
-
-def split(iri):
-    """After the last '/' or '#'; with neither the head is empty."""
-    cut = max(iri.rfind(b"/"), iri.rfind(b"#")) + 1
-    return iri[:cut], iri[cut:]
-
-
-def lead(f):
-    """Big endian; the two top bits tell the length."""
-    for length in (1, 2, 3, 4):
-        if f < 1 << (8 * length - 2):
-            return (((length - 1) << (8 * length - 2)) + f).to_bytes(length, "big")
-    raise ValueError("2^30 or more")
-
-
-def pack(text, tag):
-    if len(tag) <= 127:
-        return bytes([len(tag)]) + tag + text
-    return b"\0" + tag.replace(b"\\", b"\\\\").replace(b">", b"\\a") + b">" + text
-
-
-def is_text(s):
-    return UTF8.fullmatch(s) is not None
-
-
-class Dictionary:
-    """One of the six: its entries, and how much of its page is used (None: it has no page)."""
-
-    def __init__(self):
-        self.entries = {}
-        self.used = None
-
-    def needs_page(self, entry, size):
-        return self.used is None or self.used + len(entry) > size
-
-
-class Book:
-    def __init__(self, p, n, e, w, b):
-        self.page_size, self.pages_left, self.most, self.width, self.blocks = 1 << p, n, e, w, b
-        self.pages_needed = n << p
-        self.lists_needed = 8 * (64 + n + 18 * e + 5 * b)
-        self.heads = {0: Dictionary(), 3: Dictionary()}
-        self.whole = {k: Dictionary() for k in range(4)}  # IRI pairs, strings, tagged, typed pairs
-        self.held = {k: [] for k in range(4)}  # the global blocks of each kind, in the order of its local blocks
-        self.fresh = {k: 0 for k in range(4)}
-        self.numbers = {}
-        self.names = {}
-
-    def gains(self, kind, first, second):
-        """The entries that the dictionaries would gain."""
-        if kind == 1:
-            return [(self.whole[1], first)]
-        if kind == 2:
-            return [(self.whole[2], pack(first, second))]
-        head, rest = split(first) if kind == 0 else (first, second)
-        heads = self.heads[kind]
-        pair = (self.whole[kind], lead(heads.entries.get(head, len(heads.entries))) + rest)
-        return [pair] if head in heads.entries else [(heads, head), pair]
-
-    def block(self, kind):
-        """The global block of the kind's next name, and whether it is a new one."""
-        held = self.held[kind]
-        l = self.fresh[kind] >> self.width
-        if l < len(held):
-            return held[l], False
-        start = 0 if l == 0 else held[l - 1] + (l - 1)
-        taken = set(itertools.chain(*self.held.values()))
-        return next(g for g in itertools.count(start) if g not in taken), True
-
-    def add(self, kind, first, second):
-        name = (kind, first, second)
-        if name in self.numbers:
-            return "known %d" % self.numbers[name]
-        gains = self.gains(kind, first, second)
-        assert all(entry not in d.entries for d, entry in gains)
-        refuse_if(any(len(d.entries) >= self.most for d, _ in gains), 8)
-        takes = [d.needs_page(entry, self.page_size) for d, entry in gains]
-        refuse_if(sum(takes) > self.pages_left, 9)
-        g, new = self.block(kind)
-        refuse_if(g >= self.blocks, 10)
-        for (d, entry), take in zip(gains, takes):
-            d.entries[entry] = len(d.entries)
-            d.used = (0 if take else d.used) + len(entry)
-        self.pages_left -= sum(takes)
-        if new:
-            self.held[kind].append(g)
-        number = (g << self.width) + self.fresh[kind] % (1 << self.width)
-        assert number not in self.names
-        self.fresh[kind] += 1
-        self.numbers[name] = number
-        self.names[number] = name
-        return "fresh %d" % number
+from rules import RANGES, Book, Refused, check_name, refuse_if
 
 
 # ---- printing
@@ -144,8 +32,40 @@ def shown(s):
     return runs(s) if len(s) > 48 else "".join(" %02x" % b for b in s)
 
 
+# ---- the two files
+
+STDIN, STDOUT = [], []
+
+
+def write(line, printed):
+    """A line of the input, and what is to be printed for it."""
+    STDIN.append(line + "\n")
+    STDOUT.append(printed)
+
+
+def written(s):
+    """A part of a name in a line of the input."""
+    pieces = []
+    for b, same in itertools.groupby(s):
+        n = len(list(same))
+        pieces.append("%02x*%x." % (b, n) if n > 4 else "%02x" % b * n)
+    return "".join(pieces).rstrip(".") or "-"
+
+
+def name_of(kind, first, second):
+    return "%x %s %s" % (kind, written(first), written(second))
+
+
 def title(s):
-    print("-- " + s)
+    write("-- " + s, "-- %s\n" % s)
+
+
+def say(s):
+    write("t " + s, s)
+
+
+def line_end():
+    write("", "\n")
 
 
 # ---- the calls
@@ -153,23 +73,24 @@ def title(s):
 class Memory:
     """Two slices, by their lengths, and the book in them. Each call may be given the first bytes alone."""
 
-    def __init__(self, pages=49156, lists=11088):
+    def __init__(self, pages=49156, lists=11088, byte=0xAA):
         self.pages, self.lists, self.book = pages, lists, None
+        self.fill(byte)
+
+    def fill(self, byte):
+        write("m %02x" % byte, "")
 
     def lengths(self, pages, lists):
         return self.pages if pages is None else pages, self.lists if lists is None else lists
+
+    def call(self, which, lengths, words, printed):
+        write("%s %x %x %s" % (which, *lengths, words), printed)
 
     def opened(self, lengths):
         pages, lists = lengths
         book = self.book
         refuse_if(lists < 512 or book is None or pages < book.pages_needed or lists < book.lists_needed, 3)
         return book
-
-    def named(self, kind, first, second):
-        refuse_if(kind > 3 or (kind < 2 and second), 4)
-        refuse_if(len(first) + len(second) > LONGEST, 5)
-        refuse_if(not (is_text(first) and is_text(second)), 6)
-        refuse_if(kind == 2 and not second, 7)
 
     def open(self, *sizes, pages=None, lists=None):
         pages, lists = self.lengths(pages, lists)
@@ -181,37 +102,53 @@ class Memory:
             self.book = book
         except Refused as why:
             answer = " refused %s, memory as found" % why
-        print("open %d %d %d %d %d in %d %d:%s" % (*sizes, pages, lists, answer))
+        self.call("o", (pages, lists), " ".join("%x" % x for x in sizes),
+                  "open %d %d %d %d %d in %d %d:%s\n" % (*sizes, pages, lists, answer))
 
     def added(self, kind, first, second, lengths):
         try:
             book = self.opened(lengths)
-            self.named(kind, first, second)
+            check_name(kind, first, second)
             return " " + book.add(kind, first, second)
         except Refused as why:
             return " refused %s" % why
 
     def add(self, kind, first, second=b"", pages=None, lists=None):
-        answer = self.added(kind, first, second, self.lengths(pages, lists))
+        lengths = self.lengths(pages, lists)
+        answer = self.added(kind, first, second, lengths)
         if "refused" in answer:
             answer += ", memory as found"
-        print("add %d%s%s:%s" % (kind, part(first), part(second), answer))
+        self.call("a", lengths, name_of(kind, first, second),
+                  "add %d%s%s:%s\n" % (kind, part(first), part(second), answer))
+
+    def add_shortly(self, kind, first):
+        """The answer alone is printed."""
+        lengths = (self.pages, self.lists)
+        self.call("A", lengths, name_of(kind, first, b""), self.added(kind, first, b"", lengths))
+
+    def add_quietly(self, kind, first):
+        lengths = (self.pages, self.lists)
+        self.added(kind, first, b"", lengths)
+        self.call("q", lengths, name_of(kind, first, b""), "")
 
     def find(self, kind, first, second=b"", pages=None, lists=None):
+        lengths = self.lengths(pages, lists)
         try:
-            book = self.opened(self.lengths(pages, lists))
-            self.named(kind, first, second)
+            book = self.opened(lengths)
+            check_name(kind, first, second)
             number = book.numbers.get((kind, first, second))
             answer = " none" if number is None else " known %d" % number
         except Refused as why:
             answer = " refused %s" % why
-        print("find %d%s%s:%s" % (kind, part(first), part(second), answer))
+        self.call("f", lengths, name_of(kind, first, second),
+                  "find %d%s%s:%s\n" % (kind, part(first), part(second), answer))
 
     def read(self, number, length, pages=None, lists=None):
+        lengths = self.lengths(pages, lists)
         buffer = b"\xAA" * length
         answer = " none"
         try:
-            book = self.opened(self.lengths(pages, lists))
+            book = self.opened(lengths)
             if number in book.names:
                 kind, first, second = book.names[number]
                 both = first + second
@@ -220,7 +157,13 @@ class Memory:
                 answer = " kind %d lengths %d %d" % (kind, len(first), len(second))
         except Refused as why:
             answer = " refused %s" % why
-        print("read %d in %d:%s, buffer%s" % (number, length, answer, shown(buffer)))
+        self.call("r", lengths, "%x %x" % (number, length),
+                  "read %d in %d:%s, buffer%s\n" % (number, length, answer, shown(buffer)))
+
+    def reads_back(self, number, kind, first):
+        """Whether the number has that name; the program counts it."""
+        self.call("=", (self.pages, self.lists), "%s %x" % (name_of(kind, first, b""), number), "")
+        return self.book.names.get(number) == (kind, first, b"")
 
     def counted(self, kind, lengths):
         try:
@@ -231,20 +174,25 @@ class Memory:
             return " refused %s" % why
 
     def count(self, kind, pages=None, lists=None):
-        print("count %d:%s" % (kind, self.counted(kind, self.lengths(pages, lists))))
+        lengths = self.lengths(pages, lists)
+        self.call("c", lengths, "%x" % kind, "count %d:%s\n" % (kind, self.counted(kind, lengths)))
 
     def counts(self):
         lengths = (self.pages, self.lists)
-        print("count 0 to 3:" + "".join(self.counted(kind, lengths) for kind in range(4)))
+        say("count 0 to 3:")
+        for kind in range(4):
+            self.call("C", lengths, "%x" % kind, self.counted(kind, lengths))
+        line_end()
 
     def beyond(self):
         """The bytes past what the sizes need, which were AA."""
-        pages = b"\xAA" * (self.pages - self.book.pages_needed)
-        lists = b"\xAA" * (self.lists - self.book.lists_needed)
-        print("beyond:%s and%s" % (shown(pages), shown(lists)))
+        needed = (self.book.pages_needed, self.book.lists_needed)
+        pages = b"\xAA" * (self.pages - needed[0])
+        lists = b"\xAA" * (self.lists - needed[1])
+        self.call("b", (self.pages, self.lists), "%x %x" % needed, "beyond:%s and%s\n" % (shown(pages), shown(lists)))
 
 
-# ---- the lists of calls, in the order of the program's modules
+# ---- the lists of calls
 
 def opening():
     m = Memory(16384, 976)
@@ -741,8 +689,10 @@ def refusing():
 def numbered(m, kind, count):
     """The names http://p/00 and on, five to a line with their answers alone."""
     for start in range(0, count, 5):
-        answers = [m.added(kind, b"http://p/%02d" % i, b"", (m.pages, m.lists)) for i in range(start, start + 5)]
-        print("add %d http://p/%02d to %02d:%s" % (kind, start, start + 4, "".join(answers)))
+        say("add %d http://p/%02d to %02d:" % (kind, start, start + 4))
+        for i in range(start, start + 5):
+            m.add_shortly(kind, b"http://p/%02d" % i)
+        line_end()
 
 
 def block_reads(m):
@@ -834,7 +784,7 @@ def four(m, pages=None, lists=None):
 
 
 def unopened():
-    m = Memory(8192, 704)
+    m = Memory(8192, 704, byte=0)
     title("lists all zero")
     four(m)
     title("unopened before every other refusal")
@@ -842,12 +792,13 @@ def unopened():
     m.find(2, b"\xFF")
     m.read(2**64 - 1, 0)
     m.count(4)
-    for what, pages, lists in (
-            ("511 bytes that are zero", 8192, 511),
-            ("511 bytes that are AA", 8192, 511),
-            ("lists of no bytes", 8192, 0),
-            ("no bytes at all", 0, 0)):
+    for what, byte, pages, lists in (
+            ("511 bytes that are zero", 0, 8192, 511),
+            ("511 bytes that are AA", 0xAA, 8192, 511),
+            ("lists of no bytes", 0xAA, 8192, 0),
+            ("no bytes at all", 0xAA, 0, 0)):
         title(what)
+        m.fill(byte)
         four(m, pages, lists)
 
     title("a dictionary")
@@ -880,8 +831,8 @@ def heads():
     names = [b"%02d/x" % i for i in range(70)]
 
     def right():
-        back = [m.book.names.get(i) == (0, name, b"") for i, name in enumerate(names)]
-        print("read back right: %d" % sum(back))
+        back = [m.reads_back(i, 0, name) for i, name in enumerate(names)]
+        write("n read back right:", "read back right: %d\n" % sum(back))
 
     title("70 heads")
     m.open(13, 2, 73, 24, 1)
@@ -889,7 +840,7 @@ def heads():
         if i % 10 == 0:
             m.add(0, name)
         else:
-            m.added(0, name, b"", (m.pages, m.lists))
+            m.add_quietly(0, name)
     right()
     m.add(0, b"63/x")
     m.add(0, b"64/x")
@@ -904,10 +855,6 @@ def heads():
     m.counts()
 
 
-PROGRAMS = {
-    "calls": (opening, kinds),
-    "edges": (lengths, reading, unopened),
-    "capacity": (filling, refusing, blocks, heads),
-}
-for section in PROGRAMS[sys.argv[1]]:
+for section in (opening, kinds, lengths, reading, unopened, filling, refusing, blocks, heads):
     section()
+sys.stdout.write("".join({"stdin": STDIN, "stdout": STDOUT}[sys.argv[1]]))

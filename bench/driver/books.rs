@@ -19,7 +19,7 @@ pub trait Book {
 
 // ---- the library
 
-const SIZES: ours::Sizes = ours::Sizes { page_width: 20, pages: 32, list: 131_072, width: 24, blocks: 16 };
+const SIZES: ours::Sizes = ours::Sizes { page_width: 20, pages: 32, list: 40_960, width: 24, blocks: 16 };
 
 pub struct Library(ours::Book);
 

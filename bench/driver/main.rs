@@ -14,7 +14,7 @@ mod table;
 
 use books::{Library, MapAndVec, Original, OriginalQuick};
 use names::{Input, KINDS};
-use seats::{Contender, HashAlone, Seat, OPERATIONS};
+use seats::{Contender, HashAlone, HashInTurn, Seat, OPERATIONS};
 use std::time::Instant;
 use table::{Cells, ALL, CONTENDERS};
 
@@ -25,6 +25,7 @@ fn contenders() -> [Box<dyn Contender>; CONTENDERS] {
         Box::new(Seat::new(OriginalQuick::new())),
         Box::new(Seat::new(MapAndVec::default())),
         Box::new(HashAlone),
+        Box::new(HashInTurn),
     ]
 }
 

@@ -1,4 +1,4 @@
-//! What is done with each dictionary, and the hash alone.
+//! What is done with each dictionary, and the hash alone: of names one beside the other, and of names in turn.
 use crate::books::Book;
 use crate::names::{Input, Name, COUNTS};
 use std::hint::black_box;
@@ -93,20 +93,49 @@ fn fnv_from(start: u32, bytes: &[u8]) -> u32 {
     bytes.iter().fold(start, |h, b| (h ^ *b as u32).wrapping_mul(16_777_619))
 }
 
+fn fnv(start: u32, name: &Name) -> u32 {
+    fnv_from(fnv_from(start, name.first.as_bytes()), name.second.as_bytes())
+}
+
 fn hash(name: &Name) {
-    black_box(fnv_from(fnv_from(2_166_136_261, name.first.as_bytes()), name.second.as_bytes()));
+    black_box(fnv(2_166_136_261, name));
+}
+
+fn names(operation: Operation, kind: usize, input: &Input) -> &[Name] {
+    match operation {
+        Operation::Fresh => &input.known[kind],
+        Operation::Known | Operation::Hit => &input.asked[kind],
+        Operation::Miss => &input.missing[kind],
+        Operation::Read => &[],
+    }
 }
 
 impl Contender for HashAlone {
     fn clear(&mut self) {}
 
     fn run(&mut self, operation: Operation, kind: usize, input: &Input) {
-        match operation {
-            Operation::Fresh => input.known[kind].iter().for_each(hash),
-            Operation::Known | Operation::Hit => input.asked[kind].iter().for_each(hash),
-            Operation::Miss => input.missing[kind].iter().for_each(hash),
-            Operation::Read => {}
+        names(operation, kind, input).iter().for_each(hash);
+    }
+
+    fn check(&self, _: &Input) -> Option<&[Vec<u64>; 4]> {
+        None
+    }
+}
+
+/// The same, where each name waits for the hash of the one before: what a single call has to wait.
+pub struct HashInTurn;
+
+impl Contender for HashInTurn {
+    fn clear(&mut self) {}
+
+    fn run(&mut self, operation: Operation, kind: usize, input: &Input) {
+        let mut before = 0u64;
+        for name in names(operation, kind, input) {
+            // The high half of a hash is 0, which the compiler does not know of `before`.
+            let zero = (black_box(before) >> 32) as u32;
+            before = fnv(2_166_136_261 ^ zero, name) as u64;
         }
+        black_box(before);
     }
 
     fn check(&self, _: &Input) -> Option<&[Vec<u64>; 4]> {

@@ -7,7 +7,8 @@ pub const ORIGINAL: usize = 1;
 pub const QUICK: usize = 2;
 pub const MAP: usize = 3;
 pub const HASH: usize = 4;
-pub const CONTENDERS: usize = 5;
+pub const TURN: usize = 5;
+pub const CONTENDERS: usize = 6;
 /// The column of all kinds together, behind the four.
 pub const ALL: usize = 4;
 
@@ -20,24 +21,25 @@ pub fn calls(kind: usize) -> f64 {
     n as f64
 }
 
-fn line(words: [&str; 10]) {
-    let [operation, kind, ours, original, quick, map, hash, a, b, c] = words;
-    println!("{operation:<10} {kind:<7}{ours:>6}{original:>10}{quick:>10}{map:>9}{hash:>7}{a:>12}{b:>12}{c:>9}");
+fn line(words: [&str; 11]) {
+    let [operation, kind, ours, original, quick, map, hash, turn, a, b, c] = words;
+    println!("{operation:<10} {kind:<7}{ours:>6}{original:>10}{quick:>10}{map:>9}{hash:>7}{turn:>8}{a:>12}{b:>12}{c:>9}");
 }
 
 pub fn print(title: &str, cells: &Cells) {
     println!("\n{title}\n");
-    line(["", "", "ours", "original", "original", "HashMap", "hash", "ours/orig.", "ours/orig.", "ours/"]);
-    line(["operation", "kind", "", "sip", "quick", "+ Vec", "alone", "sip", "quick", "HashMap"]);
+    line(["", "", "ours", "original", "original", "HashMap", "hash", "hash", "ours/orig.", "ours/orig.", "ours/"]);
+    line(["operation", "kind", "", "sip", "quick", "+ Vec", "alone", "in turn", "sip", "quick", "HashMap"]);
     for (o, (_, operation)) in OPERATIONS.iter().enumerate() {
         for (k, kind) in KINDS.iter().chain(["all"].iter()).enumerate() {
             let of = |contender: usize| format!("{:.0}", cells[contender][o][k]);
             let over = |contender: usize| format!("{:.2}", cells[OURS][o][k] / cells[contender][o][k]);
             // A read has no hash.
-            let hash = if *operation == "read" { "-".to_string() } else { of(HASH) };
+            let hashed = |contender: usize| if *operation == "read" { "-".to_string() } else { of(contender) };
+            let (hash, turn) = (hashed(HASH), hashed(TURN));
             let (ours, original, quick, map) = (of(OURS), of(ORIGINAL), of(QUICK), of(MAP));
             let (a, b, c) = (over(ORIGINAL), over(QUICK), over(MAP));
-            line([operation, kind, &ours, &original, &quick, &map, &hash, &a, &b, &c]);
+            line([operation, kind, &ours, &original, &quick, &map, &hash, &turn, &a, &b, &c]);
         }
     }
 }

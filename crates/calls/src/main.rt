@@ -1,9 +1,14 @@
-// Runs lists of calls over the exported entries open, add, find, read and count, and prints each call with its answer: sizes, and every kind of name.
-// What is right stands in the file stdout, which tools/expected_calls.py makes from document 01 alone.
-mod kinds;
-mod opening;
+// Makes the calls that its input lists on the exported entries open, add, find, read and count, and prints each with its answer.
+// The files stdin and stdout are made by tools/expected_calls.py, which has the answers from document 01 alone.
+mod call;
+mod run;
+mod script;
+mod show;
 
 fn main() {
-    opening::run();
-    kinds::run();
+    let mut pages = [0u8; 49156];
+    let mut lists = [0u8; 11088];
+    let mut input = io::large_buffer();
+    let n = io::read_full(0, &mut input);
+    run::run(&input[..n], &mut pages, &mut lists);
 }

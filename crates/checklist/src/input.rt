@@ -3,7 +3,6 @@ use crate::book::Lists;
 use crate::book::Numbers;
 use crate::book::Pages;
 use crate::compare;
-use crate::line;
 use crate::number;
 use crate::report;
 use crate::report::Tally;
@@ -76,7 +75,7 @@ fn each(
     let mut t = t;
     let mut i = 0;
     while i < s.len() {
-        let end = line::end_of(s, i, b'\n');
+        let end = lines::end_of(s, i, b'\n');
         t = one(task, t, &s[i..end], pages, lists, numbers, lines);
         i = end + 1;
     }

@@ -18,29 +18,6 @@ pub struct Name {
     pub second: usize,
 }
 
-// Where the mark is, from i on; the length if it is not there.
-pub fn end_of(s: &[u8], i: usize, mark: u8) -> usize
-    requires { ⌜ i ≤ length (now s) ⌝ }
-    ensures { λ r. ⌜ (i ≤ r) × (r ≤ length (now (s .entry))) ⌝ }
-{
-    let mut k = i;
-    while k < s.len() {
-        if s[k] == mark {
-            return k;
-        }
-        k += 1;
-    }
-    k
-}
-
-// Behind the mark at `i`, if it is there.
-fn behind(s: &[u8], i: usize) -> usize
-    requires { ⌜ i ≤ length (now s) ⌝ }
-    ensures { λ r. ⌜ (i ≤ r) × (r ≤ length (now (s .entry))) ⌝ }
-{
-    if i < s.len() { i + 1 } else { i }
-}
-
 // A number below this has room for one digit more.
 const ROOM: u64 = 1000000000000000000;
 
@@ -109,12 +86,12 @@ pub fn name_at(s: &[u8], i: usize) -> Name
     ensures { λ r. ⌜ (r .first ≤ r .tab) × (r .tab ≤ r .second) × (r .second ≤ length (now (s .entry))) ⌝ }
 {
     let x = word(s, i);
-    let tab = end_of(s, x.end, b'\t');
+    let tab = lines::end_of(s, x.end, b'\t');
     Name {
         found: x.found,
         kind: x.value,
         first: x.end,
         tab,
-        second: behind(s, tab),
+        second: lines::behind(s, tab),
     }
 }

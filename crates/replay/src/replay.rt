@@ -21,21 +21,6 @@ fn digit(b: u8) -> u64
     0
 }
 
-// Where the mark is, from i on; the length if it is not there.
-fn end_of(s: &[u8], i: usize, mark: u8) -> usize
-    requires { ⌜ i ≤ length (now s) ⌝ }
-    ensures { λ r. ⌜ (i ≤ r) × (r ≤ length (now (s .entry))) ⌝ }
-{
-    let mut k = i;
-    while k < s.len() {
-        if s[k] == mark {
-            return k;
-        }
-        k += 1;
-    }
-    k
-}
-
 // Whether the part stands in s from `at` on.
 fn stands(s: &[u8], at: usize, part: &[u8]) -> bool {
     if at > s.len() {
@@ -124,7 +109,7 @@ fn line(s: &[u8], pages: &mut [u8], lists: &mut [u8]) -> bool {
     if s.len() < 8 {
         return false;
     }
-    let border = end_of(s, 8, b'|');
+    let border = lines::end_of(s, 8, b'|');
     if border >= s.len() {
         return false;
     }
@@ -169,7 +154,7 @@ pub fn run(name: &[u8], calls: &[u8], pages: &mut [u8], lists: &mut [u8]) {
     let mut done = 0;
     let mut wrong = 0;
     while i < calls.len() {
-        let end = end_of(calls, i, b'\n');
+        let end = lines::end_of(calls, i, b'\n');
         wrong += differing(&calls[i..end], pages, lists);
         done += 1;
         i = end + 1;
