@@ -25,12 +25,14 @@ def out(*parts):
 
 def lines(name):
     """Number and bytes of each line that is no remark."""
+    out("# ", name)
     path = os.path.join(CRATE, "stdin") if name == "-" else os.path.join(CRATE, "data", name)
     with open(path, "rb") as file:
-        content = file.read()
+        content = file.read().removeprefix(b"\xEF\xBB\xBF")
     for number, line in enumerate(content.removesuffix(b"\n").split(b"\n"), 1):
+        line = line.rstrip(b"\r")
         if line and not line.startswith(b"#"):
-            yield number, line.removesuffix(b"\r")
+            yield number, line
 
 
 def named(match):
@@ -68,50 +70,72 @@ def read(book, name):
     for at, line in lines(name):
         if re.fullmatch(NUMBER, line):
             found = book.names.get(int(line))
-            out(line, " ", as_line(found) if found else "none")
+            out(int(line), " ", as_line(found) if found else "none")
         else:
-            out("# line ", at, ": not a number")
+            out("# line ", at, ": not a number of 19 digits at the most")
 
 
-def numbering(name):
-    """Each name's number and line, first come, and the remarks on lines that are none."""
-    for at, line in lines(name):
-        match = re.fullmatch(rb"(?:(?:fresh|known) )?" + NUMBER + rb" (" + NAME + rb")", line, re.S)
-        if not match:
-            out("# line ", at, ": not a number, a space and a name")
-            continue
-        number, text, *parts = match.groups()
-        try:
-            check_name(*named(parts))
-        except Refused as why:
-            out("# line ", at, ": refused, ", WORDS[why.args[0]])
-            continue
-        yield int(number), named(parts), text
+class Numbering:
+    """The names of a file with their numbers; a name that comes again has the number that it was given last."""
+
+    def __init__(self, name):
+        self.numbers, self.refused = {}, 0
+        for at, line in lines(name):
+            match = re.fullmatch(rb"(?:fresh |known )?" + NUMBER + rb" (" + NAME + rb")", line, re.S)
+            if not match:
+                out("# line ", at, ": not a number, a space and a name")
+                self.refused += 1
+                continue
+            number, text, *parts = match.groups()
+            try:
+                check_name(*named(parts))
+            except Refused as why:
+                out("# line ", at, ": refused, ", WORDS[why.args[0]])
+                self.refused += 1
+                continue
+            self.take(named(parts), int(number), text)
+
+    def take(self, name, number, text):
+        if self.numbers.get(name, number) != number:
+            out("# twice, now with ", number, " ", text)
+        self.come(name, number, text)
+        self.numbers[name] = number
+
+    def come(self, name, number, text):
+        pass
+
+
+class Second(Numbering):
+    """The second of two, each name of which is held against the first when it comes for the first time."""
+
+    def __init__(self, first, name):
+        self.first, self.agree, self.differ, self.added = first, 0, 0, 0
+        super().__init__(name)
+
+    def come(self, name, number, text):
+        if name in self.numbers:
+            return
+        one = self.first.numbers.get(name)
+        if one is None:
+            if not self.added:
+                out("first only in the second: ", number, " ", text)
+            self.added += 1
+        elif one == number:
+            self.agree += 1
+        else:
+            if not self.differ:
+                out("first difference: ", one, " in the first, ", number, " in the second: ", text)
+            self.differ += 1
 
 
 def compare(one, two):
-    first = {}
-    for number, name, text in numbering(one):
-        if first.setdefault(name, number) != number:
-            out("# twice in the first, now with ", number, " ", text)
-    left = dict(first)
-    agree = differ = added = 0
-    for number, name, text in numbering(two):
-        if name not in first:
-            if not added:
-                out("first only in the second: ", number, " ", text)
-            added += 1
-        elif first[name] != number:
-            if not differ:
-                out("first difference: ", first[name], " in the first, ", number, " in the second: ", text)
-            differ += 1
-        else:
-            agree += name in left
-        left.pop(name, None)
-    for name, number in left.items():
-        out("first only in the first: ", number, " ", as_line(name))
-        break
-    out("# %d agree, %d differ, %d only in the first, %d only in the second" % (agree, differ, len(left), added))
+    first = Numbering(one)
+    second = Second(first, two)
+    left = [name for name in first.numbers if name not in second.numbers]
+    if left:
+        out("first only in the first: ", first.numbers[left[0]], " ", as_line(left[0]))
+    out("# %d agree, %d differ, %d only in the first, %d only in the second; lines refused: %d and %d"
+        % (second.agree, second.differ, len(left), second.added, first.refused, second.refused))
 
 
 def main():
@@ -121,16 +145,20 @@ def main():
     book = Book(16, 32, 16384, *sizes)
     while words:
         word = words.pop(0)
-        if word == "number":
-            number(book, words.pop(0))
-        elif word == "read":
-            read(book, words.pop(0))
-        else:
-            if word == "blocks":
-                sizes = int(words.pop(0)), int(words.pop(0))
+        try:
+            if word == "number":
+                number(book, words.pop(0))
+            elif word == "read":
+                read(book, words.pop(0))
             elif word == "compare":
                 compare(words.pop(0), words.pop(0))
-            book = Book(16, 32, 16384, *sizes)
+                book = Book(16, 32, 16384, *sizes)
+            elif word == "blocks":
+                sizes = int(words.pop(0)), int(words.pop(0))
+                book = Book(16, 32, 16384, *sizes)
+        except FileNotFoundError as missing:
+            out("# cannot be opened: ", os.path.basename(missing.filename))
+            return
 
 
 main()

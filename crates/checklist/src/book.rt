@@ -1,13 +1,25 @@
-// The dictionary's memory, and its sizes: pages of 65,536 bytes, 32 of them, lists of 16,384. The blocks are the caller's choice.
+// The dictionary's memory and its sizes. The blocks are the caller's choice: the numbers depend on their width.
 use crate::report;
 
-pub type Pages = [u8; 2097152];
+const PAGE_WIDTH: u64 = 16;
 
-// Enough for 4,096 blocks.
-pub type Lists = [u8; 2523904];
+const PAGES: u64 = 32;
+
+const LIST_LENGTH: u64 = 16384;
+
+// What these sizes need, with blocks up to 4,096.
+pub const PAGE_BYTES: usize = 2097152;
+
+pub const LIST_BYTES: usize = 2523904;
+
+pub type Pages = [u8; PAGE_BYTES];
+
+pub type Lists = [u8; LIST_BYTES];
 
 // Something of each number below 65,536.
-pub type Numbers = [u64; 65536];
+pub const NUMBERS: usize = 65536;
+
+pub type Numbers = [u64; NUMBERS];
 
 // The blocks if none are asked for: as wide as Nemo's.
 pub const WIDTH: u64 = 24;
@@ -16,12 +28,19 @@ pub const COUNT: u64 = 4096;
 
 // A dictionary with no names, and whether it could be opened.
 pub fn open(pages: &Pages, lists: &mut Lists, width: u64, count: u64) -> bool {
-    let refusal = namedict::namedict_open(pages, lists, 16, 32, 16384, width, count);
-    if refusal == 0 {
-        return true;
+    let refusal = namedict::namedict_open(
+        pages,
+        lists,
+        PAGE_WIDTH,
+        PAGES,
+        LIST_LENGTH,
+        width,
+        count,
+    );
+    if refusal != 0 {
+        report::text(b"# blocks: refused, ");
+        report::word(refusal);
+        report::text(b" (the width is 4 to 24, the count 1 to 4096)\n");
     }
-    report::text(b"# not opened: ");
-    report::word(refusal);
-    report::text(b"\n");
-    false
+    refusal == 0
 }

@@ -1,7 +1,9 @@
 // Two numberings held against one another. A line is a number, a space and a name; `fresh` or `known` may stand before it. The names
-// of the first are put into a dictionary whose numbers are below 65,536: `numbers` has what the first says of each, `lines` its line, 0 once the second has the name too.
+// of both are put into a dictionary whose numbers are below 65,536. Of each, `lines` has the line of the first numbering until the second has the
+// name too, else 0, and `numbers` the number that was said of it last.
 use crate::book;
 use crate::book::Lists;
+use crate::book::NUMBERS;
 use crate::book::Numbers;
 use crate::book::Pages;
 use crate::line;
@@ -17,8 +19,6 @@ const WIDTH: u64 = 14;
 
 const COUNT: u64 = 4;
 
-const NUMBERS: usize = 65536;
-
 pub fn start(pages: &Pages, lists: &mut Lists, lines: &mut Numbers) {
     book::open(pages, lists, WIDTH, COUNT);
     let mut i = 0;
@@ -33,25 +33,11 @@ fn numbered(s: &[u8]) -> Decimal
     ensures { λ r. ⌜ r .end ≤ length (now (s .entry)) ⌝ }
 {
     if s.len() > 6 {
-        if s[0] == b'f' || s[0] == b'k' {
+        if line::is(&s[..6], b"fresh ") || line::is(&s[..6], b"known ") {
             return line::word(s, 6);
         }
     }
     line::word(s, 0)
-}
-
-fn malformed(t: Tally) -> Tally {
-    let mut t = t;
-    report::passed_over(t.line, b"not a number, a space and a name");
-    t.refused = report::one_more(t.refused);
-    t
-}
-
-fn refused(t: Tally, refusal: u64) -> Tally {
-    let mut t = t;
-    report::refused(t.line, refusal);
-    t.refused = report::one_more(t.refused);
-    t
 }
 
 // A number, and the name that has it.
@@ -73,8 +59,76 @@ fn difference(one: u64, two: u64, s: &[u8]) {
     report::text(b"\n");
 }
 
-// A line of the first numbering.
-pub fn first_line(
+// A name that neither had before.
+fn fresh(t: Tally, second: bool, value: u64, s: &[u8]) -> Tally {
+    let mut t = t;
+    if second {
+        if t.added == 0 {
+            pair(b"first only in the second: ", value, s);
+        }
+        t.added = report::one_more(t.added);
+    }
+    t
+}
+
+// A name of the first numbering, for the first time in the second.
+fn both(t: Tally, one: u64, two: u64, s: &[u8]) -> Tally {
+    let mut t = t;
+    if one == two {
+        t.agree = report::one_more(t.agree);
+        return t;
+    }
+    if t.differ == 0 {
+        difference(one, two, s);
+    }
+    t.differ = report::one_more(t.differ);
+    t
+}
+
+// A name that the same numbering had before.
+fn again(t: Tally, one: u64, two: u64, s: &[u8]) -> Tally {
+    if one != two {
+        pair(b"# twice, now with ", two, s);
+    }
+    t
+}
+
+// Number i of the dictionary is said to have this number, by a line that ends with the name.
+fn say(
+    t: Tally,
+    second: bool,
+    new: bool,
+    i: usize,
+    value: u64,
+    s: &[u8],
+    numbers: &mut Numbers,
+    lines: &mut Numbers,
+) -> Tally {
+    if i >= NUMBERS {
+        return t;
+    }
+    let one = numbers[i];
+    let line = lines[i];
+    numbers[i] = value;
+    lines[i] = if second {
+        0
+    } else if new {
+        t.line
+    } else {
+        line
+    };
+    if new {
+        return fresh(t, second, value, s);
+    }
+    if second && line != 0 {
+        return both(t, one, value, s);
+    }
+    again(t, one, value, s)
+}
+
+// A line of the first or the second numbering.
+pub fn line_of(
+    second: bool,
     t: Tally,
     s: &[u8],
     pages: &mut Pages,
@@ -86,77 +140,25 @@ pub fn first_line(
     let end = n.end;
     let x = line::name_at(s, end);
     if !n.found || !x.found {
-        return malformed(t);
+        return report::passed_over(t, b"not a number, a space and a name");
     }
     let first = x.first;
     let tab = x.tab;
-    let second = x.second;
-    let r = namedict::namedict_add(pages, lists, x.kind, &s[first..tab], &s[second..]);
+    let behind = x.second;
+    let r = namedict::namedict_add(pages, lists, x.kind, &s[first..tab], &s[behind..]);
     if r.refusal != 0 {
-        return refused(t, r.refusal);
+        return report::refused(t, r.refusal);
     }
-    let i = r.number as usize;
-    if i >= NUMBERS {
-        return t;
-    }
-    if r.word == 1 {
-        numbers[i] = n.value;
-        lines[i] = t.line;
-    } else if numbers[i] != n.value {
-        pair(b"# twice in the first, now with ", n.value, &s[end..]);
-    }
-    t
-}
-
-// A name of both numberings.
-fn both(t: Tally, i: usize, value: u64, s: &[u8], numbers: &Numbers, lines: &mut Numbers) -> Tally {
-    let mut t = t;
-    if i >= NUMBERS {
-        return t;
-    }
-    if numbers[i] != value {
-        if t.differ == 0 {
-            difference(numbers[i], value, s);
-        }
-        t.differ = report::one_more(t.differ);
-    } else if lines[i] != 0 {
-        t.agree = report::one_more(t.agree);
-    }
-    lines[i] = 0;
-    t
-}
-
-// A line of the second numbering.
-pub fn second_line(
-    t: Tally,
-    s: &[u8],
-    pages: &Pages,
-    lists: &Lists,
-    numbers: &Numbers,
-    lines: &mut Numbers,
-) -> Tally {
-    let mut t = t;
-    let n = numbered(s);
-    let end = n.end;
-    let x = line::name_at(s, end);
-    if !n.found || !x.found {
-        return malformed(t);
-    }
-    let first = x.first;
-    let tab = x.tab;
-    let second = x.second;
-    let r = namedict::namedict_find(pages, lists, x.kind, &s[first..tab], &s[second..]);
-    if r.refusal != 0 {
-        return refused(t, r.refusal);
-    }
-    if r.word == 2 {
-        return both(t, r.number as usize, n.value, &s[end..], numbers, lines);
-    }
-    if t.added == 0 {
-        pair(b"first only in the second: ", n.value, &s[end..]);
-    }
-    t.added = report::one_more(t.added);
-    t
+    say(
+        t,
+        second,
+        r.word == 1,
+        r.number as usize,
+        n.value,
+        &s[end..],
+        numbers,
+        lines,
+    )
 }
 
 // The first line of the first numbering whose name the second has not.
@@ -187,8 +189,15 @@ fn how_many(lines: &Numbers) -> u64 {
     n
 }
 
-// What is left to say once both are read.
-pub fn end(t: Tally, pages: &Pages, lists: &Lists, numbers: &Numbers, lines: &Numbers) {
+// What is left to say once both are read. `refused`: how many lines of the first were.
+pub fn end(
+    refused: u64,
+    t: Tally,
+    pages: &Pages,
+    lists: &Lists,
+    numbers: &Numbers,
+    lines: &Numbers,
+) {
     let i = missing(lines);
     if i < NUMBERS {
         report::text(b"first only in the first: ");
@@ -205,5 +214,9 @@ pub fn end(t: Tally, pages: &Pages, lists: &Lists, numbers: &Numbers, lines: &Nu
     report::number(how_many(lines));
     report::text(b" only in the first, ");
     report::number(t.added);
-    report::text(b" only in the second\n");
+    report::text(b" only in the second; lines refused: ");
+    report::number(refused);
+    report::text(b" and ");
+    report::number(t.refused);
+    report::text(b"\n");
 }

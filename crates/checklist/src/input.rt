@@ -3,10 +3,11 @@ use crate::book::Lists;
 use crate::book::Numbers;
 use crate::book::Pages;
 use crate::compare;
+use crate::line;
 use crate::number;
 use crate::report;
 use crate::report::Tally;
-ghost use Prim.Native.Nat.{_≤_};
+ghost use Prim.Native.Nat.{_<_, _≤_};
 ghost use lib.ListN.{length};
 
 // What is done with a line: its name is numbered, its number read; it is of the first or the second of two numberings.
@@ -17,18 +18,59 @@ pub enum Task {
     Second,
 }
 
-// The line without the '\r' that some editors put before the '\n'.
+// The end of a line without the '\r' that some editors put before the '\n'.
 fn trimmed(s: &[u8]) -> usize
     ensures { λ r. ⌜ r ≤ length (now (s .entry)) ⌝ }
 {
-    let n = s.len();
-    if n == 0 {
-        return 0;
+    let mut n = s.len();
+    while n > 0 {
+        if s[n - 1] != b'\r' {
+            return n;
+        }
+        n -= 1;
     }
-    if s[n - 1] == b'\r' { n - 1 } else { n }
+    n
 }
 
-// One line. Empty lines and those that begin with '#' are passed over.
+// The start of a line of n bytes, behind the three bytes that some editors put at a file's start to say that it is UTF-8.
+fn start(line: u64, s: &[u8], n: usize) -> usize
+    requires { ⌜ n ≤ length (now s) ⌝ }
+    ensures { λ r. ⌜ r ≤ n ⌝ }
+{
+    if n < 3 {
+        return 0;
+    }
+    if line == 1 && line::is(&s[..3], b"\xEF\xBB\xBF") {
+        return 3;
+    }
+    0
+}
+
+// What a line says. One of no bytes, or that begins with '#', is passed over.
+fn told(
+    task: Task,
+    t: Tally,
+    s: &[u8],
+    pages: &mut Pages,
+    lists: &mut Lists,
+    numbers: &mut Numbers,
+    lines: &mut Numbers,
+) -> Tally {
+    if s.len() == 0 {
+        return t;
+    }
+    if s[0] == b'#' {
+        return t;
+    }
+    match task {
+        Task::Number => number::add(t, s, pages, lists),
+        Task::Read => number::read(t, s, pages, lists),
+        Task::First => compare::line_of(false, t, s, pages, lists, numbers, lines),
+        Task::Second => compare::line_of(true, t, s, pages, lists, numbers, lines),
+    }
+}
+
+// One line, or what is left of one that was cut.
 fn one(
     task: Task,
     t: Tally,
@@ -45,21 +87,8 @@ fn one(
     }
     t.line = report::one_more(t.line);
     let n = trimmed(s);
-    if n == 0 {
-        return t;
-    }
-    if s[0] == b'#' {
-        return t;
-    }
-    match task {
-        Task::Number => number::add(t, &s[..n], pages, lists),
-        Task::Read => {
-            number::read(t, &s[..n], pages, lists);
-            t
-        }
-        Task::First => compare::first_line(t, &s[..n], pages, lists, numbers, lines),
-        Task::Second => compare::second_line(t, &s[..n], pages, lists, numbers, lines),
-    }
+    let from = start(t.line, s, n);
+    told(task, t, &s[from..n], pages, lists, numbers, lines)
 }
 
 // Each line of s.
@@ -82,11 +111,12 @@ fn each(
     t
 }
 
-// Behind the last line end; 0 if there is none.
-fn whole(s: &[u8]) -> usize
-    ensures { λ r. ⌜ r ≤ length (now (s .entry)) ⌝ }
+// Behind the last line end before `end`; 0 if there is none.
+fn whole(s: &[u8], end: usize) -> usize
+    requires { ⌜ end ≤ length (now s) ⌝ }
+    ensures { λ r. ⌜ r ≤ end ⌝ }
 {
-    let mut n = s.len();
+    let mut n = end;
     while n > 0 {
         if s[n - 1] == b'\n' {
             return n;
@@ -107,36 +137,51 @@ fn shift(buf: &mut [u8], from: usize)
     }
 }
 
-// Keeps what is behind the first n bytes, at the front, and gives how many bytes that is. A line of which no end is there is not kept.
-fn keep(buf: &mut [u8], n: usize) -> usize
-    requires { ⌜ n ≤ length (now buf) ⌝ }
+// Keeps what is from n to `end`, at the front, and gives how many bytes that is. A line that fills the buffer is not kept.
+fn keep(buf: &mut [u8], n: usize, end: usize) -> usize
+    requires { ⌜ (n ≤ end) × (end ≤ length (now buf)) ⌝ }
     ensures { λ r. ⌜ r ≤ length (now (buf .entry)) ⌝ }
 {
-    if n == 0 {
+    if end - n == buf.len() {
         return 0;
     }
     shift(buf, n);
-    buf.len() - n
+    end - n
 }
 
-// Reads on behind the bytes that are kept, and gives how many there are then.
-fn fill(fd: i32, buf: &mut [u8], kept: usize) -> usize
+// What one read has brought: how many bytes there are then.
+struct Filled {
+    end: usize,
+    failed: bool,
+    more: bool,
+}
+
+// Reads on behind the bytes that are kept.
+fn fill(fd: i32, buf: &mut [u8], kept: usize) -> Filled
     requires { ⌜ kept ≤ length (now buf) ⌝ }
-    ensures { λ r. ⌜ r ≤ length (now (buf .entry)) ⌝ }
+    ensures { λ r. ⌜ (kept ≤ r .end) × (r .end ≤ length (now (buf .entry))) ⌝ }
 {
-    kept + io::read_full(fd, &mut buf[kept..])
+    let got = libc::read(fd, &mut buf[kept..]);
+    let n = io::count(got, &buf[kept..]);
+    Filled {
+        end: kept + n,
+        failed: got < 0,
+        more: n > 0,
+    }
 }
 
-// A line that does not fit into the buffer, of which no end is there.
-fn cut_short(t: Tally, n: usize) -> Tally {
+// A line that fills the buffer. It is too long for a name, or a remark.
+fn cut_short(t: Tally, full: bool, first: u8) -> Tally {
     let mut t = t;
-    if n == 0 && !t.cut {
-        t.line = report::one_more(t.line);
-        t.refused = report::one_more(t.refused);
-        t.cut = true;
-        report::refused(t.line, 5);
+    if !full || t.cut {
+        return t;
     }
-    t
+    t.cut = true;
+    t.line = report::one_more(t.line);
+    if first == b'#' {
+        return t;
+    }
+    report::refused(t, 5)
 }
 
 // Runs the lines of an open file through a buffer. Nothing says that a file ends, so the turns are counted down from a number that no
@@ -149,26 +194,33 @@ fn through(
     lists: &mut Lists,
     numbers: &mut Numbers,
     lines: &mut Numbers,
-) -> Tally {
+) -> Tally
+    requires { ⌜ 0 < length (now buf) ⌝ }
+{
     let mut t = report::none(true);
     // How many bytes at the buffer's front begin a line.
     let mut kept = 0;
     let mut turns = u64::MAX;
     while turns > 0 {
-        let end = fill(fd, buf, kept);
-        if end < buf.len() {
+        turns -= 1;
+        let x = fill(fd, buf, kept);
+        let end = x.end;
+        if x.failed {
+            report::remark(b"cannot be read to its end", b"");
+            return report::none(false);
+        }
+        if !x.more {
             return each(task, t, &buf[..end], pages, lists, numbers, lines);
         }
-        let n = whole(buf);
-        t = cut_short(t, n);
+        let n = whole(buf, end);
+        t = cut_short(t, end - n == buf.len(), buf[0]);
         t = each(task, t, &buf[..n], pages, lists, numbers, lines);
-        kept = keep(buf, n);
-        turns -= 1;
+        kept = keep(buf, n, end);
     }
     t
 }
 
-// Runs the lines of an open file. A line of 65,536 bytes or more does not fit, and its name is too long.
+// Runs the lines of an open file. A line of 65,536 bytes or more does not fit.
 pub fn run(
     fd: i32,
     task: Task,
@@ -177,6 +229,6 @@ pub fn run(
     numbers: &mut Numbers,
     lines: &mut Numbers,
 ) -> Tally {
-    let mut buf = [0u8; 65536];
+    let mut buf = io::large_buffer();
     through(fd, &mut buf, task, pages, lists, numbers, lines)
 }

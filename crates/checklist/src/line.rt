@@ -1,4 +1,5 @@
 // The parts of a line: a decimal number; a name, which is its kind, a space, its first part and, behind a tab, its second part.
+use parts::Mode;
 ghost use Prim.Native.Nat.{_≤_};
 ghost use lib.ListN.{length};
 
@@ -16,6 +17,11 @@ pub struct Name {
     pub first: usize,
     pub tab: usize,
     pub second: usize,
+}
+
+// Whether a word is this one.
+pub fn is(word: &[u8], name: &[u8]) -> bool {
+    parts::same(Mode::Raw, name, word)
 }
 
 // A number below this has room for one digit more.

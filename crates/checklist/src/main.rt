@@ -10,15 +10,13 @@ use book::Lists;
 use book::Numbers;
 use book::Pages;
 use input::Task;
-use parts::Mode;
 use report::Tally;
-ghost use mathlib.Core.Path.{_≡_};
 ghost use Prim.Native.Nat.{_<_, _≤_};
 
 // No more words than this are looked at.
 const MOST_WORDS: usize = 1000;
 
-// Past them all.
+// A word behind them all.
 const STOP: usize = 2000;
 
 // The word where the next command is, and the blocks of the dictionary that it finds.
@@ -26,10 +24,6 @@ struct Next {
     word: usize,
     width: u64,
     count: u64,
-}
-
-fn is(word: &[u8], name: &[u8]) -> bool {
-    parts::same(Mode::Raw, name, word)
 }
 
 // The lines of the file that word i names.
@@ -43,12 +37,14 @@ fn file(
 ) -> Tally {
     let mut path = io::buffer();
     let n = os::arg(i, &mut path);
-    if is(&path[..n], b"-") {
+    report::remark(b"", &path[..n]);
+    if line::is(&path[..n], b"-") {
         return input::run(0, task, pages, lists, numbers, lines);
     }
     let fd = os::open_read(&path[..n]);
     if fd < 0 {
-        return report::not_opened(&path[..n]);
+        report::remark(b"cannot be opened: ", &path[..n]);
+        return report::none(false);
     }
     let t = input::run(fd, task, pages, lists, numbers, lines);
     libc::close(fd);
@@ -63,7 +59,7 @@ fn size(i: usize) -> u64 {
     if x.end == n { x.value } else { 0 }
 }
 
-// Numbers the names of a file. Whether it was there, as below.
+// Numbers the names of a file. The answer, as of the next two: whether all of it could be read.
 fn number_names(
     i: usize,
     pages: &mut Pages,
@@ -72,8 +68,10 @@ fn number_names(
     lines: &mut Numbers,
 ) -> bool {
     let t = file(i, Task::Number, pages, lists, numbers, lines);
-    report::numbered(t);
-    t.there
+    if t.read {
+        report::numbered(t);
+    }
+    t.read
 }
 
 // Reads the numbers of a file back.
@@ -85,7 +83,7 @@ fn read_back(
     lines: &mut Numbers,
 ) -> bool {
     let t = file(i, Task::Read, pages, lists, numbers, lines);
-    t.there
+    t.read
 }
 
 // Compares the numberings of two files, in the memory of the dictionary, which has no names afterwards.
@@ -99,12 +97,14 @@ fn compare_two(
 ) -> bool {
     compare::start(pages, lists, lines);
     let first = file(i, Task::First, pages, lists, numbers, lines);
-    let second = file(j, Task::Second, pages, lists, numbers, lines);
-    if first.there && second.there {
-        compare::end(second, pages, lists, numbers, lines);
-        return true;
+    if !first.read {
+        return false;
     }
-    false
+    let second = file(j, Task::Second, pages, lists, numbers, lines);
+    if second.read {
+        compare::end(first.refused, second, pages, lists, numbers, lines);
+    }
+    second.read
 }
 
 // What comes after a command that has run up to word i. One that has failed is the last.
@@ -116,9 +116,10 @@ fn after(done: bool, i: usize, width: u64, count: u64) -> Next
     Next { word, width, count }
 }
 
-// Runs the command at word i.
+// Runs the command at word i, behind which there are `left` words.
 fn command(
     i: usize,
+    left: usize,
     width: u64,
     count: u64,
     pages: &mut Pages,
@@ -131,20 +132,20 @@ fn command(
 {
     let mut name = io::buffer();
     let n = os::arg(i, &mut name);
-    if is(&name[..n], b"number") {
+    if line::is(&name[..n], b"number") && left >= 1 {
         let done = number_names(i + 1, pages, lists, numbers, lines);
         return after(done, i + 2, width, count);
     }
-    if is(&name[..n], b"read") {
+    if line::is(&name[..n], b"read") && left >= 1 {
         let done = read_back(i + 1, pages, lists, numbers, lines);
         return after(done, i + 2, width, count);
     }
-    if is(&name[..n], b"compare") {
+    if line::is(&name[..n], b"compare") && left >= 2 {
         let done = compare_two(i + 1, i + 2, pages, lists, numbers, lines);
         book::open(pages, lists, width, count);
         return after(done, i + 3, width, count);
     }
-    if is(&name[..n], b"blocks") {
+    if line::is(&name[..n], b"blocks") && left >= 2 {
         let width = size(i + 1);
         let count = size(i + 2);
         let done = book::open(pages, lists, width, count);
@@ -154,17 +155,27 @@ fn command(
     after(false, i + 1, width, count)
 }
 
-// Runs the commands one after the other.
-fn commands(pages: &mut Pages, lists: &mut Lists, numbers: &mut Numbers, lines: &mut Numbers) {
-    let n = os::arg_count();
+// Runs the commands one after the other: the words from 1 on, below n.
+fn commands(
+    n: usize,
+    pages: &mut Pages,
+    lists: &mut Lists,
+    numbers: &mut Numbers,
+    lines: &mut Numbers,
+) {
+    if n < 2 {
+        report::usage(b"none");
+        return;
+    }
     let mut i = 1;
     let mut width = book::WIDTH;
     let mut count = book::COUNT;
     while i < n {
         if i >= MOST_WORDS {
+            report::too_many(i, STOP);
             return;
         }
-        let next = command(i, width, count, pages, lists, numbers, lines);
+        let next = command(i, n - i - 1, width, count, pages, lists, numbers, lines);
         i = next.word;
         width = next.width;
         count = next.count;
@@ -172,10 +183,16 @@ fn commands(pages: &mut Pages, lists: &mut Lists, numbers: &mut Numbers, lines: 
 }
 
 fn main() {
-    let mut pages = [0u8; 2097152];
-    let mut lists = [0u8; 2523904];
-    let mut numbers = [0u64; 65536];
-    let mut lines = [0u64; 65536];
+    let mut pages = [0u8; book::PAGE_BYTES];
+    let mut lists = [0u8; book::LIST_BYTES];
+    let mut numbers = [0u64; book::NUMBERS];
+    let mut lines = [0u64; book::NUMBERS];
     book::open(&pages, &mut lists, book::WIDTH, book::COUNT);
-    commands(&mut pages, &mut lists, &mut numbers, &mut lines);
+    commands(
+        os::arg_count(),
+        &mut pages,
+        &mut lists,
+        &mut numbers,
+        &mut lines,
+    );
 }

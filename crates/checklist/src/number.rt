@@ -10,18 +10,14 @@ pub fn add(t: Tally, s: &[u8], pages: &mut Pages, lists: &mut Lists) -> Tally {
     let mut t = t;
     let x = line::name_at(s, 0);
     if !x.found {
-        report::passed_over(t.line, b"not a kind, a space and a name");
-        t.refused = report::one_more(t.refused);
-        return t;
+        return report::passed_over(t, b"not a kind, a space and a name");
     }
     let first = x.first;
     let tab = x.tab;
     let second = x.second;
     let r = namedict::namedict_add(pages, lists, x.kind, &s[first..tab], &s[second..]);
     if r.refusal != 0 {
-        report::refused(t.line, r.refusal);
-        t.refused = report::one_more(t.refused);
-        return t;
+        return report::refused(t, r.refusal);
     }
     if r.word == 1 {
         report::text(b"fresh ");
@@ -37,9 +33,12 @@ pub fn add(t: Tally, s: &[u8], pages: &mut Pages, lists: &mut Lists) -> Tally {
     t
 }
 
+// As long as the longest name.
+const LONGEST: usize = 4000;
+
 // The name that a number has: as in a line.
 pub fn name_of(number: u64, pages: &Pages, lists: &Lists) {
-    let mut buffer = [0u8; 4000];
+    let mut buffer = [0u8; LONGEST];
     let r = namedict::namedict_read(pages, lists, number, &mut buffer);
     if r.refusal != 0 {
         report::word(r.refusal);
@@ -73,14 +72,14 @@ fn parts_of(buffer: &[u8], first: u64, second: u64) {
 }
 
 // Reads the number of a line back.
-pub fn read(t: Tally, s: &[u8], pages: &Pages, lists: &Lists) {
+pub fn read(t: Tally, s: &[u8], pages: &Pages, lists: &Lists) -> Tally {
     let x = line::number(s, 0);
     if !x.found || x.end != s.len() {
-        report::passed_over(t.line, b"not a number");
-        return;
+        return report::passed_over(t, b"not a number of 19 digits at the most");
     }
     report::number(x.value);
     report::text(b" ");
     name_of(x.value, pages, lists);
     report::text(b"\n");
+    t
 }

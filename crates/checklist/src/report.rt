@@ -2,8 +2,8 @@
 
 // What the lines of a file came to.
 pub struct Tally {
-    // Whether the file was there.
-    pub there: bool,
+    // Whether all of the file could be read.
+    pub read: bool,
     // Lines so far. `cut`: the last of them is too long, and its end is still to come.
     pub line: u64,
     pub cut: bool,
@@ -16,9 +16,9 @@ pub struct Tally {
     pub added: u64,
 }
 
-pub fn none(there: bool) -> Tally {
+pub fn none(read: bool) -> Tally {
     Tally {
-        there,
+        read,
         line: 0,
         cut: false,
         fresh: 0,
@@ -61,28 +61,34 @@ pub fn word(refusal: u64) {
     }
 }
 
-// A line that is passed over, and why.
-pub fn passed_over(line: u64, why: &[u8]) {
+pub fn remark(what: &[u8], which: &[u8]) {
+    text(b"# ");
+    text(what);
+    text(which);
+    text(b"\n");
+}
+
+// A line that is passed over, and why. The tally with it.
+pub fn passed_over(t: Tally, why: &[u8]) -> Tally {
+    let mut t = t;
     text(b"# line ");
-    number(line);
+    number(t.line);
     text(b": ");
     text(why);
     text(b"\n");
+    t.refused = one_more(t.refused);
+    t
 }
 
-pub fn refused(line: u64, refusal: u64) {
+pub fn refused(t: Tally, refusal: u64) -> Tally {
+    let mut t = t;
     text(b"# line ");
-    number(line);
+    number(t.line);
     text(b": refused, ");
     word(refusal);
     text(b"\n");
-}
-
-pub fn not_opened(path: &[u8]) -> Tally {
-    text(b"# cannot be opened: ");
-    text(path);
-    text(b"\n");
-    none(false)
+    t.refused = one_more(t.refused);
+    t
 }
 
 pub fn numbered(t: Tally) {
@@ -96,9 +102,15 @@ pub fn numbered(t: Tally) {
 }
 
 pub fn usage(word: &[u8]) {
-    text(b"# not a command: ");
-    text(word);
+    remark(b"not a command with its words: ", word);
     text(
-        b"\n# blocks WIDTH COUNT, number FILE, read FILE, compare FILE FILE; - is the standard input\n",
+        b"# number FILE, read FILE, compare FILE FILE, blocks WIDTH COUNT, one after the other; - is the standard input\n",
     );
+}
+
+// More words than are looked at, unless the last command has failed, which leads to `stop`.
+pub fn too_many(i: usize, stop: usize) {
+    if i < stop {
+        text(b"# too many words\n");
+    }
 }

@@ -1,4 +1,4 @@
--- Passing over characters: plain bytes, and one character of any length. Assumes nothing.
+-- Passing over bytes without changing whether what is left is text. Assumes nothing.
 use Prim.Native.Nat.{ℕ, _≤_, _<_}
 use mathlib.Core.Path.{_≡_}
 use mathlib.Core.Bool.{Bool, true, false, _&&_}
@@ -23,7 +23,7 @@ Same s i r = textFrom between (drop r s) ≡ textFrom between (drop i s)
 abbrev pub Passed : Bytes → ℕ → ℕ → Type 0
 Passed s i r = (i ≤ r) × (r ≤ length s) × Same s i r
 
--- The same past one character, which ends before k; or no character begins at i, and the bytes from i on are no text.
+-- The same from i on to a later k; or the bytes from i on are no text.
 abbrev pub Ends : Bytes → ℕ → End → Type 0
 Ends s i (At k) = (i < k) × (k ≤ length s) × Same s i k
 Ends s i Bad = textFrom between (drop i s) ≡ false

@@ -1,4 +1,4 @@
-// Little-endian numbers in a slice of bytes: words of eight bytes, quads of four, at an index that counts them.
+// Little-endian numbers in a slice of bytes: words of eight bytes, quads of four, at an index that counts them; words from any byte on.
 // The sums of bytes below compile to one load or store.
 ghost use mathlib.Core.Path.{_≡_};
 ghost use Prim.Native.Nat.{_+_, _*_, _≤_, _<_};

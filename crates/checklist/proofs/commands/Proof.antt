@@ -6,20 +6,35 @@ use Rattle.checklist.proofs.commands.Statement.{statement}
 use Rattle.checklist.proofs.commands.Tie as tie
 
 abbrev Inv-loop : tie.InvT-loop
-Inv-loop pages₀ lists₀ numbers₀ lines₀ n i₀ width₀ count₀ pages lists numbers lines i width count =
+Inv-loop n pages₀ lists₀ numbers₀ lines₀ i₀ width₀ count₀ pages lists numbers lines i width count =
     Unit {0}
 
 abbrev μ-loop : tie.MeasureT-loop
-μ-loop pages₀ lists₀ numbers₀ lines₀ n i₀ width₀ count₀ pages lists numbers lines i width count = 2000 - i
+μ-loop n pages₀ lists₀ numbers₀ lines₀ i₀ width₀ count₀ pages lists numbers lines i width count = 2000 - i
 
-arg-count-requires : tie.Need-arg-count-requires Inv-loop μ-loop
-arg-count-requires c κs = search needs
+slice-aggregate-usage : tie.Need-slice-aggregate-usage Inv-loop μ-loop
+slice-aggregate-usage c = search needs
+
+usage-requires : tie.Need-usage-requires Inv-loop μ-loop
+usage-requires c κs = search needs
+
+returns : tie.Need-returns Inv-loop μ-loop
+returns c = search needs
 
 loop-holds : tie.Need-loop-holds Inv-loop μ-loop
 loop-holds c = search needs
 
-returns : tie.Need-returns Inv-loop μ-loop
-returns c = search needs
+too-many-requires : tie.Need-too-many-requires Inv-loop μ-loop
+too-many-requires c κs = search needs
+
+returns-2 : tie.Need-returns-2 Inv-loop μ-loop
+returns-2 c = search needs
+
+sub-command : tie.Need-sub-command Inv-loop μ-loop
+sub-command c = search needs
+
+sub-command-2 : tie.Need-sub-command-2 Inv-loop μ-loop
+sub-command-2 c = search needs
 
 command-requires : tie.Need-command-requires Inv-loop μ-loop
 command-requires c κs = search needs
@@ -30,8 +45,8 @@ loop-less c = search needs
 loop-again : tie.Need-loop-again Inv-loop μ-loop
 loop-again c = search needs
 
-returns-2 : tie.Need-returns-2 Inv-loop μ-loop
-returns-2 c = search needs
+returns-3 : tie.Need-returns-3 Inv-loop μ-loop
+returns-3 c = search needs
 
 pub commands-spec : {M : Type 1} → statement M
 commands-spec =
@@ -39,10 +54,15 @@ commands-spec =
     (tie.spec
     Inv-loop
     μ-loop
-    arg-count-requires
-    loop-holds
+    slice-aggregate-usage
+    usage-requires
     returns
+    loop-holds
+    too-many-requires
+    returns-2
+    sub-command
+    sub-command-2
     command-requires
     loop-less
     loop-again
-    returns-2)
+    returns-3)

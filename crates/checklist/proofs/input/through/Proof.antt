@@ -8,11 +8,11 @@ use Rattle.checklist.proofs.input.through.Statement.{statement}
 use Rattle.checklist.proofs.input.through.Tie as tie
 
 abbrev Inv-loop : tie.InvT-loop
-Inv-loop fd buf₀ task pages₀ lists₀ numbers₀ lines₀ t₀ kept₀ turns₀ buf pages lists numbers lines t kept turns =
+Inv-loop fd buf₀ task pages₀ lists₀ numbers₀ lines₀ t₀ kept₀ turns₀ t14 t15 buf pages lists numbers lines t kept turns =
     (kept ≤ length buf) × (length buf ≡ length buf₀)
 
 abbrev μ-loop : tie.MeasureT-loop
-μ-loop fd buf₀ task pages₀ lists₀ numbers₀ lines₀ t₀ kept₀ turns₀ buf pages lists numbers lines t kept turns =
+μ-loop fd buf₀ task pages₀ lists₀ numbers₀ lines₀ t₀ kept₀ turns₀ t14 t15 buf pages lists numbers lines t kept turns =
     turns
 
 none-requires : tie.Need-none-requires Inv-loop μ-loop
@@ -21,8 +21,29 @@ none-requires c κs = search needs
 loop-holds : tie.Need-loop-holds Inv-loop μ-loop
 loop-holds c = search needs
 
+sub-turns : tie.Need-sub-turns Inv-loop μ-loop
+sub-turns c = search needs
+
 fill-requires : tie.Need-fill-requires Inv-loop μ-loop
 fill-requires c κs = search needs
+
+slice-aggregate-remark : tie.Need-slice-aggregate-remark Inv-loop μ-loop
+slice-aggregate-remark c = search needs
+
+slice-aggregate-remark-2 : tie.Need-slice-aggregate-remark-2 Inv-loop μ-loop
+slice-aggregate-remark-2 c = search needs
+
+remark-requires : tie.Need-remark-requires Inv-loop μ-loop
+remark-requires c κs = search needs
+
+none-requires-2 : tie.Need-none-requires-2 Inv-loop μ-loop
+none-requires-2 c κs = search needs
+
+same-length : tie.Need-same-length Inv-loop μ-loop
+same-length c = search needs
+
+returns : tie.Need-returns Inv-loop μ-loop
+returns c = search needs
 
 slice-reshare-prefix-each : tie.Need-slice-reshare-prefix-each Inv-loop μ-loop
 slice-reshare-prefix-each c = search needs
@@ -33,14 +54,20 @@ slice-aggregate-each c = simp length-take (omega arith)
 each-requires : tie.Need-each-requires Inv-loop μ-loop
 each-requires c κs = search needs
 
-same-length : tie.Need-same-length Inv-loop μ-loop
-same-length c = search needs
+same-length-2 : tie.Need-same-length-2 Inv-loop μ-loop
+same-length-2 c = search needs
 
-returns : tie.Need-returns Inv-loop μ-loop
-returns c = search needs
+returns-2 : tie.Need-returns-2 Inv-loop μ-loop
+returns-2 c = search needs
 
 whole-requires : tie.Need-whole-requires Inv-loop μ-loop
 whole-requires c κs = search needs
+
+sub-cut-short : tie.Need-sub-cut-short Inv-loop μ-loop
+sub-cut-short c = search needs
+
+slice-read-cut-short : tie.Need-slice-read-cut-short Inv-loop μ-loop
+slice-read-cut-short c = search needs
 
 cut-short-requires : tie.Need-cut-short-requires Inv-loop μ-loop
 cut-short-requires c κs = search needs
@@ -57,23 +84,20 @@ each-requires-2 c κs = search needs
 keep-requires : tie.Need-keep-requires Inv-loop μ-loop
 keep-requires c κs = search needs
 
-sub-turns : tie.Need-sub-turns Inv-loop μ-loop
-sub-turns c = search needs
-
 loop-less : tie.Need-loop-less Inv-loop μ-loop
-loop-less c = search needs
+loop-less c = let a = c .before .before .before .before .before .before .before .before .before .before .before .before .before .before .before .before .before .before .before .before in omega (arith, a)
 
 loop-again : tie.Need-loop-again Inv-loop μ-loop
 loop-again c =
-    let fill = c .before .before .before .before .before .before .before .before .before .before .before .before .before .before .before .before .fill in
+    let fill = c .before .before .before .before .before .before .before .before .before .before .before .before .before .before .before .before .before .before .before .fill in
     let keep = c .before .before .keep in
-    (omega (arith, keep .ensures, keep .kept), omega (arith, keep .kept, fill .kept, c .before .before .before .before .before .before .before .before .before .before .before .before .before .before .before .before .before .before .before .loop .inv .1))
+    (omega (arith, keep .ensures, keep .kept), omega (arith, keep .kept, fill .kept, c .before .before .before .before .before .before .before .before .before .before .before .before .before .before .before .before .before .before .before .before .before .before .loop .inv .1))
 
-same-length-2 : tie.Need-same-length-2 Inv-loop μ-loop
-same-length-2 c = search needs
+same-length-3 : tie.Need-same-length-3 Inv-loop μ-loop
+same-length-3 c = search needs
 
-returns-2 : tie.Need-returns-2 Inv-loop μ-loop
-returns-2 c = search needs
+returns-3 : tie.Need-returns-3 Inv-loop μ-loop
+returns-3 c = search needs
 
 pub through-spec : {M : Type 1} → statement M
 through-spec =
@@ -83,20 +107,28 @@ through-spec =
     μ-loop
     none-requires
     loop-holds
+    sub-turns
     fill-requires
+    slice-aggregate-remark
+    slice-aggregate-remark-2
+    remark-requires
+    none-requires-2
+    same-length
+    returns
     slice-reshare-prefix-each
     slice-aggregate-each
     each-requires
-    same-length
-    returns
+    same-length-2
+    returns-2
     whole-requires
+    sub-cut-short
+    slice-read-cut-short
     cut-short-requires
     slice-reshare-prefix-each-2
     slice-aggregate-each-2
     each-requires-2
     keep-requires
-    sub-turns
     loop-less
     loop-again
-    same-length-2
-    returns-2)
+    same-length-3
+    returns-3)

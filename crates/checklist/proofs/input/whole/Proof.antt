@@ -7,10 +7,10 @@ use Rattle.checklist.proofs.input.whole.Statement.{statement}
 use Rattle.checklist.proofs.input.whole.Tie as tie
 
 abbrev Inv-loop : tie.InvT-loop
-Inv-loop s n₀ n = n ≤ length s
+Inv-loop s end n₀ n = (n ≤ end) × (end ≤ length s)
 
 abbrev μ-loop : tie.MeasureT-loop
-μ-loop s n₀ n = n
+μ-loop s end n₀ n = n
 
 loop-holds : tie.Need-loop-holds Inv-loop μ-loop
 loop-holds c = search needs
