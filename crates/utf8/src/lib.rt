@@ -122,16 +122,10 @@ fn pass_bytes(s: &[u8], i: usize) -> usize
     k
 }
 
-// Past plain bytes from i on. Where the next byte is not plain no word is looked at: in many scripts one such character follows another.
 fn pass_plain(s: &[u8], i: usize) -> usize
     requires { ⌜ i ≤ length (now s) ⌝ }
     ensures { λ r. ⌜ Passed (now (s .entry)) i r ⌝ }
 {
-    if i < s.len() {
-        if s[i] >= 0x80 {
-            return i;
-        }
-    }
     pass_bytes(s, pass_words(s, i))
 }
 
@@ -139,6 +133,10 @@ fn pass_plain(s: &[u8], i: usize) -> usize
 pub fn is_text(s: &[u8]) -> bool
     ensures { λ r. ⌜ r ≡ isText (now (s .entry)) ⌝ }
 {
+    // Many names have an empty second part.
+    if s.len() == 0 {
+        return true;
+    }
     let mut i = pass_plain(s, 0);
     while i < s.len() {
         let End::At(k) = char_end(s, i) else {

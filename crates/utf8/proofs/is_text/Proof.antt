@@ -1,8 +1,9 @@
 -- `utf8::is_text` meets its contract. The loop's invariant: the bytes from i on are text where all of them are.
 -- The measure is the number of bytes left. Assumes nothing.
 use Prim.Native.Nat.{ℕ, _-_, _≤_}
-use mathlib.Core.Path.{_≡_, sym, _∙_, subst}
-use mathlib.Core.Bool.{false}
+use mathlib.Core.Path.{_≡_, refl, sym, _∙_, subst}
+use mathlib.Core.Bool.{true, false}
+use mathlib.Core.List.{[], _∷_}
 use native.Mathlib.Omega.{arith}
 use lib.ListN.{length, drop}
 use denote.Enum.Declared.{tagOf}
@@ -29,8 +30,16 @@ abbrev μ-loop : tie.MeasureT-loop
 
 -- The character at i ends at k.
 ends : (c : tie.After-known-told Inv-loop μ-loop)
-    → Ends (c .before .before .before .before .before .before .before .before .args .s .now) (c .before .before .before .before .before .loop .i) (At (c .before .k .given .0 .0))
+    → Ends (c .before .before .before .before .before .before .before .before .before .args .s .now) (c .before .before .before .before .before .loop .i) (At (c .before .k .given .0 .0))
 ends c = subst (Ends _ _) (c .before .k .given .1) (c .before .before .before .char-end .ensures)
+
+empty : (s : Bytes) → length s ≡ 0 → true ≡ isText s
+unfolding isText
+empty [] e = refl
+empty (b ∷ s) e = absurd (omega arith)
+
+returns : tie.Need-returns Inv-loop μ-loop
+returns c = empty _ (omega arith)
 
 pass-plain-requires : tie.Need-pass-plain-requires Inv-loop μ-loop
 pass-plain-requires c κs = omega arith
@@ -48,8 +57,8 @@ enum-known-k c = search needs
 enum-told : tie.Need-enum-told Inv-loop μ-loop
 enum-told c = search needs
 
-returns : tie.Need-returns Inv-loop μ-loop
-returns c =
+returns-2 : tie.Need-returns-2 Inv-loop μ-loop
+returns-2 c =
     let a = c .before .before in
     sym (no-end _ _ (a .char-end .result) (a .char-end .ensures) (c .before .match .keys2)) ∙ a .before .before .loop .inv .1
 
@@ -64,8 +73,8 @@ loop-again c =
     let p = c .pass-plain2 .ensures in
     (p .1, p .2 ∙ ends (c .before) .2 ∙ c .before .before .before .before .before .before .loop .inv .1)
 
-returns-2 : tie.Need-returns-2 Inv-loop μ-loop
-returns-2 c =
+returns-3 : tie.Need-returns-3 Inv-loop μ-loop
+returns-3 c =
     let a = c .before .loop in
     sym (text-end between (a .i) _ (omega arith)) ∙ a .inv .1
 
@@ -75,13 +84,14 @@ is-text-spec =
     (tie.spec
     Inv-loop
     μ-loop
+    returns
     pass-plain-requires
     loop-holds
     char-end-requires
     enum-known-k
     enum-told
-    returns
+    returns-2
     pass-plain-requires-2
     loop-less
     loop-again
-    returns-2)
+    returns-3)
