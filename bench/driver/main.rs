@@ -1,5 +1,6 @@
 //! Measures the library, the original, HashMap with a Vec and the hash alone on the same names.
-//! Commands: time ROUNDS; count, under callgrind; counts, which prints the counts given as lines "contender operation kind count".
+//! Commands: time ROUNDS; alone ROUNDS, the library without the others between; count, under callgrind; counts, which prints the counts given
+//! as lines "contender operation kind count".
 mod books;
 mod counts;
 mod names;
@@ -29,14 +30,14 @@ fn contenders() -> [Box<dyn Contender>; CONTENDERS] {
     ]
 }
 
-/// One round: each operation and kind, done by each contender in turn, the first of them another one each round.
-fn round(number: usize, contenders: &mut [Box<dyn Contender>; CONTENDERS], input: &Input) -> Cells {
+/// One round: each operation and kind, done by each of the first contenders in turn, the first of them another one each round.
+fn round(number: usize, first: usize, contenders: &mut [Box<dyn Contender>; CONTENDERS], input: &Input) -> Cells {
     let mut cells = Cells::default();
     contenders.iter_mut().for_each(|c| c.clear());
     for (o, (operation, _)) in OPERATIONS.iter().enumerate() {
         for kind in 0..KINDS.len() {
-            for turn in 0..CONTENDERS {
-                let c = (turn + number) % CONTENDERS;
+            for turn in 0..first {
+                let c = (turn + number) % first;
                 let begin = Instant::now();
                 contenders[c].run(*operation, kind, input);
                 let spent = begin.elapsed().as_nanos() as f64;
@@ -76,13 +77,21 @@ fn time(rounds: usize) {
     let input = Input::new();
     let mut contenders = contenders();
     // Not counted: it warms up, and its answers are checked.
-    round(0, &mut contenders, &input);
+    round(0, CONTENDERS, &mut contenders, &input);
     check(&contenders, &input);
     for (kind, name) in KINDS.iter().enumerate() {
         println!("{name}: {} names, {:.1} bytes on average", names::COUNTS[kind], input.length(kind));
     }
-    let rounds: Vec<Cells> = (1..=rounds).map(|n| round(n, &mut contenders, &input)).collect();
+    let rounds: Vec<Cells> = (1..=rounds).map(|n| round(n, CONTENDERS, &mut contenders, &input)).collect();
     table::print(&format!("ns a call, the median of {} interleaved rounds", rounds.len()), &each_cell(&rounds, median));
+}
+
+fn alone(rounds: usize) {
+    let input = Input::new();
+    let mut contenders = contenders();
+    round(0, 1, &mut contenders, &input);
+    let rounds: Vec<Cells> = (1..=rounds).map(|n| round(n, 1, &mut contenders, &input)).collect();
+    table::print_ours(&each_cell(&rounds, median));
 }
 
 fn count() {
@@ -115,10 +124,11 @@ fn main() {
     let words: Vec<String> = std::env::args().skip(1).collect();
     match words.iter().map(String::as_str).collect::<Vec<_>>()[..] {
         ["time", rounds] => time(rounds.parse().expect("how many rounds")),
+        ["alone", rounds] => alone(rounds.parse().expect("how many rounds")),
         ["count"] => count(),
         ["counts"] => print_counts(),
         _ => {
-            eprintln!("commands: time ROUNDS, count, counts");
+            eprintln!("commands: time ROUNDS, alone ROUNDS, count, counts");
             std::process::exit(2);
         }
     }

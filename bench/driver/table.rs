@@ -43,3 +43,13 @@ pub fn print(title: &str, cells: &Cells) {
         }
     }
 }
+
+/// The library's cells: a row for each operation, a column for each kind.
+pub fn print_ours(cells: &Cells) {
+    println!("\nns a call of ours with no other contender between\n");
+    println!("{:<10}{:>7}{:>7}{:>8}{:>7}{:>6}", "operation", KINDS[0], KINDS[1], KINDS[2], KINDS[3], "all");
+    for (o, (_, operation)) in OPERATIONS.iter().enumerate() {
+        let [a, b, c, d, all] = cells[OURS][o];
+        println!("{operation:<10}{a:>7.0}{b:>7.0}{c:>8.0}{d:>7.0}{all:>6.0}");
+    }
+}
