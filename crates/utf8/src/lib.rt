@@ -17,9 +17,16 @@ pub enum Step {
 fn first(b: u8) -> Step
     ensures { λ r. ⌜ r ≡ firstOf b ⌝ }
 {
+    if b < 0x80 {
+        return Step::Due(0, 0x80, 0xBF);
+    }
+    if b < 0xC2 {
+        return Step::Bad;
+    }
+    if b < 0xE0 {
+        return Step::Due(1, 0x80, 0xBF);
+    }
     match b {
-        0x00..=0x7F => Step::Due(0, 0x80, 0xBF),
-        0xC2..=0xDF => Step::Due(1, 0x80, 0xBF),
         0xE0 => Step::Due(2, 0xA0, 0xBF),
         0xE1..=0xEC => Step::Due(2, 0x80, 0xBF),
         0xED => Step::Due(2, 0x80, 0x9F),
@@ -122,10 +129,16 @@ fn pass_bytes(s: &[u8], i: usize) -> usize
     k
 }
 
+// Past plain bytes from i on. Where the next byte is not plain no word is looked at: in many scripts one such character follows another.
 fn pass_plain(s: &[u8], i: usize) -> usize
     requires { ⌜ i ≤ length (now s) ⌝ }
     ensures { λ r. ⌜ Passed (now (s .entry)) i r ⌝ }
 {
+    if i < s.len() {
+        if s[i] >= 0x80 {
+            return i;
+        }
+    }
     pass_bytes(s, pass_words(s, i))
 }
 

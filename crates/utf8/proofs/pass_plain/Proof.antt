@@ -4,14 +4,20 @@ use Rattle.utf8.proofs.Plain.{pass-on}
 use Rattle.utf8.proofs.pass_plain.Statement.{statement}
 use Rattle.utf8.proofs.pass_plain.Tie as tie
 
+shared-slice-read-if2 : tie.Need-shared-slice-read-if2
+shared-slice-read-if2 c = search needs
+
+returns : tie.Need-returns
+returns c = search needs
+
 pass-words-requires : tie.Need-pass-words-requires
 pass-words-requires c κs = search needs
 
 pass-bytes-requires : tie.Need-pass-bytes-requires
 pass-bytes-requires c κs = search needs
 
-returns : tie.Need-returns
-returns c = pass-on _ _ _ _ (c .before .pass-words .ensures) (c .pass-bytes .ensures)
+returns-2 : tie.Need-returns-2
+returns-2 c = pass-on _ _ _ _ (c .before .pass-words .ensures) (c .pass-bytes .ensures)
 
 pub pass-plain-spec : {M : Type 1} → statement M
-pass-plain-spec = tie.close (tie.spec pass-words-requires pass-bytes-requires returns)
+pass-plain-spec = tie.close (tie.spec shared-slice-read-if2 returns pass-words-requires pass-bytes-requires returns-2)
