@@ -110,17 +110,18 @@ fn front_is(
     parts::same(mode, tag, &stored[a..b])
 }
 
-// How many bytes more agree of the `left` last ones of the rest, which end at `end` in the pages: eight at a time where the rest has eight, else one. 0: they do not agree.
+// How many bytes more agree of the `left` last ones of the rest, which end at `end` in the pages: eight at a time where the rest has eight, else all of them. 0: they do not agree.
 fn agreeing(pages: &[u8], end: usize, rest: &[u8], left: usize) -> usize
     requires { ⌜ (0 < left) × (left ≤ length (now rest)) × (length (now rest) ≤ end) × (end ≤ length (now pages)) ⌝ }
     ensures { λ r. ⌜ Agreeing (now (pages .entry)) end (now (rest .entry)) left r ⌝ }
 {
     let n = rest.len();
     if n < 8 {
-        if pages[end - left] != rest[n - left] {
+        let start = end - n;
+        if !parts::same(Mode::Raw, rest, &pages[start..end]) {
             return 0;
         }
-        return 1;
+        return left;
     }
     // The last eight may begin among bytes that were compared before.
     let from = if left < 8 { 8 } else { left };
