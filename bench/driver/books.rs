@@ -107,7 +107,7 @@ macro_rules! original {
 }
 
 original!(Original, nemo_sip);
-original!(OriginalQuick, nemo_quick);
+original!(OriginalFold, nemo_fold);
 
 // ---- HashMap with a Vec
 

@@ -13,7 +13,7 @@ mod random;
 mod seats;
 mod table;
 
-use books::{Library, MapAndVec, Original, OriginalQuick};
+use books::{Library, MapAndVec, Original, OriginalFold};
 use names::{Input, KINDS};
 use seats::{Contender, HashAlone, HashInTurn, Seat, OPERATIONS};
 use std::time::Instant;
@@ -23,7 +23,7 @@ fn contenders() -> [Box<dyn Contender>; CONTENDERS] {
     [
         Box::new(Seat::new(Library::new())),
         Box::new(Seat::new(Original::new())),
-        Box::new(Seat::new(OriginalQuick::new())),
+        Box::new(Seat::new(OriginalFold::new())),
         Box::new(Seat::new(MapAndVec::default())),
         Box::new(HashAlone),
         Box::new(HashInTurn),
@@ -52,7 +52,7 @@ fn round(number: usize, first: usize, contenders: &mut [Box<dyn Contender>; CONT
 fn check(contenders: &[Box<dyn Contender>; CONTENDERS], input: &Input) {
     let numbers: Vec<_> = contenders.iter().map(|c| c.check(input)).collect();
     assert!(numbers[table::OURS] == numbers[table::ORIGINAL]);
-    assert!(numbers[table::OURS] == numbers[table::QUICK]);
+    assert!(numbers[table::OURS] == numbers[table::FOLD]);
 }
 
 /// A cell made from that cell of every round.

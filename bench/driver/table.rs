@@ -4,7 +4,7 @@ use crate::seats::OPERATIONS;
 
 pub const OURS: usize = 0;
 pub const ORIGINAL: usize = 1;
-pub const QUICK: usize = 2;
+pub const FOLD: usize = 2;
 pub const MAP: usize = 3;
 pub const HASH: usize = 4;
 pub const TURN: usize = 5;
@@ -22,14 +22,14 @@ pub fn calls(kind: usize) -> f64 {
 }
 
 fn line(words: [&str; 11]) {
-    let [operation, kind, ours, original, quick, map, hash, turn, a, b, c] = words;
-    println!("{operation:<10} {kind:<7}{ours:>6}{original:>10}{quick:>10}{map:>9}{hash:>7}{turn:>8}{a:>12}{b:>12}{c:>9}");
+    let [operation, kind, ours, original, fold, map, hash, turn, a, b, c] = words;
+    println!("{operation:<10} {kind:<7}{ours:>6}{original:>10}{fold:>10}{map:>9}{hash:>7}{turn:>8}{a:>12}{b:>12}{c:>9}");
 }
 
 pub fn print(title: &str, cells: &Cells) {
     println!("\n{title}\n");
     line(["", "", "ours", "original", "original", "HashMap", "hash", "hash", "ours/orig.", "ours/orig.", "ours/"]);
-    line(["operation", "kind", "", "sip", "quick", "+ Vec", "alone", "in turn", "sip", "quick", "HashMap"]);
+    line(["operation", "kind", "", "sip", "fold", "+ Vec", "alone", "in turn", "sip", "fold", "HashMap"]);
     for (o, (_, operation)) in OPERATIONS.iter().enumerate() {
         for (k, kind) in KINDS.iter().chain(["all"].iter()).enumerate() {
             let of = |contender: usize| format!("{:.0}", cells[contender][o][k]);
@@ -37,9 +37,9 @@ pub fn print(title: &str, cells: &Cells) {
             // A read has no hash.
             let hashed = |contender: usize| if *operation == "read" { "-".to_string() } else { of(contender) };
             let (hash, turn) = (hashed(HASH), hashed(TURN));
-            let (ours, original, quick, map) = (of(OURS), of(ORIGINAL), of(QUICK), of(MAP));
-            let (a, b, c) = (over(ORIGINAL), over(QUICK), over(MAP));
-            line([operation, kind, &ours, &original, &quick, &map, &hash, &turn, &a, &b, &c]);
+            let (ours, original, fold, map) = (of(OURS), of(ORIGINAL), of(FOLD), of(MAP));
+            let (a, b, c) = (over(ORIGINAL), over(FOLD), over(MAP));
+            line([operation, kind, &ours, &original, &fold, &map, &hash, &turn, &a, &b, &c]);
         }
     }
 }

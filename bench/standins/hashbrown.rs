@@ -1,15 +1,15 @@
 //! Stands in for the crate hashbrown: std's HashMap, whose table is hashbrown's, asked through Hash and Equivalent.
-//! Its hash is std's (SipHash-1-3), or with `--cfg quick` a folded multiply.
+//! Its hash is std's (SipHash-1-3), or with `--cfg fold` a folded multiply.
 use std::borrow::Borrow;
 use std::collections::HashMap as Table;
-#[cfg(not(quick))]
+#[cfg(not(fold))]
 use std::hash::DefaultHasher as KeyHasher;
 use std::hash::{BuildHasherDefault, Hash, Hasher};
 
-#[cfg(quick)]
-mod quick;
-#[cfg(quick)]
-use quick::Folded as KeyHasher;
+#[cfg(fold)]
+mod fold;
+#[cfg(fold)]
+use fold::Folded as KeyHasher;
 
 pub trait Equivalent<K: ?Sized> {
     fn equivalent(&self, key: &K) -> bool;
