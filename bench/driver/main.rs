@@ -1,4 +1,4 @@
-//! Measures the library, the original, HashMap with a Vec and the hash alone on the same names.
+//! Measures the library, the original, HashMap with a Vec, the bare search and the hash alone on the same names.
 //! Commands: time ROUNDS; alone ROUNDS, the library without the others between; count, under callgrind; counts, which prints the counts given
 //! as lines "contender operation kind count".
 mod books;
@@ -13,7 +13,7 @@ mod random;
 mod seats;
 mod table;
 
-use books::{Library, MapAndVec, Original, OriginalFold};
+use books::{Bare, Library, MapAndVec, Original, OriginalFold};
 use names::{Input, KINDS};
 use seats::{Contender, HashAlone, HashInTurn, Seat, OPERATIONS};
 use std::time::Instant;
@@ -27,6 +27,7 @@ fn contenders() -> [Box<dyn Contender>; CONTENDERS] {
         Box::new(Seat::new(MapAndVec::default())),
         Box::new(HashAlone),
         Box::new(HashInTurn),
+        Box::new(Seat::new(Bare::new())),
     ]
 }
 
@@ -53,6 +54,7 @@ fn check(contenders: &[Box<dyn Contender>; CONTENDERS], input: &Input) {
     let numbers: Vec<_> = contenders.iter().map(|c| c.check(input)).collect();
     assert!(numbers[table::OURS] == numbers[table::ORIGINAL]);
     assert!(numbers[table::OURS] == numbers[table::FOLD]);
+    assert!(numbers[table::OURS] == numbers[table::BARE]);
 }
 
 /// A cell made from that cell of every round.

@@ -89,7 +89,9 @@ impl<B: Book> Contender for Seat<B> {
 /// FNV-1a of 32 bits over a name's bytes: a multiply for each byte, each waiting for the one before.
 pub struct HashAlone;
 
-fn fnv_from(start: u32, bytes: &[u8]) -> u32 {
+pub const FNV_START: u32 = 2_166_136_261;
+
+pub fn fnv_from(start: u32, bytes: &[u8]) -> u32 {
     bytes.iter().fold(start, |h, b| (h ^ *b as u32).wrapping_mul(16_777_619))
 }
 
@@ -98,7 +100,7 @@ fn fnv(start: u32, name: &Name) -> u32 {
 }
 
 fn hash(name: &Name) {
-    black_box(fnv(2_166_136_261, name));
+    black_box(fnv(FNV_START, name));
 }
 
 fn names(operation: Operation, kind: usize, input: &Input) -> &[Name] {
@@ -133,7 +135,7 @@ impl Contender for HashInTurn {
         for name in names(operation, kind, input) {
             // The high half of a hash is 0, which the compiler does not know of `before`.
             let zero = (black_box(before) >> 32) as u32;
-            before = fnv(2_166_136_261 ^ zero, name) as u64;
+            before = fnv(FNV_START ^ zero, name) as u64;
         }
         black_box(before);
     }

@@ -8,7 +8,8 @@ pub const FOLD: usize = 2;
 pub const MAP: usize = 3;
 pub const HASH: usize = 4;
 pub const TURN: usize = 5;
-pub const CONTENDERS: usize = 6;
+pub const BARE: usize = 6;
+pub const CONTENDERS: usize = 7;
 /// The column of all kinds together, behind the four.
 pub const ALL: usize = 4;
 
@@ -21,25 +22,27 @@ pub fn calls(kind: usize) -> f64 {
     n as f64
 }
 
-fn line(words: [&str; 11]) {
-    let [operation, kind, ours, original, fold, map, hash, turn, a, b, c] = words;
-    println!("{operation:<10} {kind:<7}{ours:>6}{original:>10}{fold:>10}{map:>9}{hash:>7}{turn:>8}{a:>12}{b:>12}{c:>9}");
+fn line(words: [&str; 13]) {
+    let [operation, kind, ours, original, fold, map, bare, hash, turn, a, b, c, d] = words;
+    println!("{operation:<10} {kind:<7}{ours:>6}{original:>10}{fold:>10}{map:>9}{bare:>8}{hash:>7}{turn:>8}{a:>12}{b:>12}{c:>9}{d:>8}");
 }
 
 pub fn print(title: &str, cells: &Cells) {
     println!("\n{title}\n");
-    line(["", "", "ours", "original", "original", "HashMap", "hash", "hash", "ours/orig.", "ours/orig.", "ours/"]);
-    line(["operation", "kind", "", "sip", "fold", "+ Vec", "alone", "in turn", "sip", "fold", "HashMap"]);
+    line(["", "", "ours", "original", "original", "HashMap", "bare", "hash", "hash", "ours/orig.", "ours/orig.", "ours/", "bare/"]);
+    line(["operation", "kind", "", "sip", "fold", "+ Vec", "search", "alone", "in turn", "sip", "fold", "HashMap", "fold"]);
     for (o, (_, operation)) in OPERATIONS.iter().enumerate() {
         for (k, kind) in KINDS.iter().chain(["all"].iter()).enumerate() {
             let of = |contender: usize| format!("{:.0}", cells[contender][o][k]);
-            let over = |contender: usize| format!("{:.2}", cells[OURS][o][k] / cells[contender][o][k]);
-            // A read has no hash.
+            let ratio = |one: usize, other: usize| format!("{:.2}", cells[one][o][k] / cells[other][o][k]);
+            let over = |contender: usize| ratio(OURS, contender);
+            // A read has no search.
             let hashed = |contender: usize| if *operation == "read" { "-".to_string() } else { of(contender) };
-            let (hash, turn) = (hashed(HASH), hashed(TURN));
+            let (bare, hash, turn) = (hashed(BARE), hashed(HASH), hashed(TURN));
             let (ours, original, fold, map) = (of(OURS), of(ORIGINAL), of(FOLD), of(MAP));
             let (a, b, c) = (over(ORIGINAL), over(FOLD), over(MAP));
-            line([operation, kind, &ours, &original, &fold, &map, &hash, &turn, &a, &b, &c]);
+            let d = if *operation == "read" { "-".to_string() } else { ratio(BARE, FOLD) };
+            line([operation, kind, &ours, &original, &fold, &map, &bare, &hash, &turn, &a, &b, &c, &d]);
         }
     }
 }

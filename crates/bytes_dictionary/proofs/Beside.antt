@@ -25,7 +25,7 @@ use Rattle.bytes_dictionary.specs.Written.{entryWritten, pagesAfter, lis
 use Rattle.bytes_dictionary.proofs.Steps.{Off, off-below, off-behind, word-kept, place-kept}
 use Rattle.bytes_dictionary.proofs.Rooms.{beyond-extended, beyond-took}
 
-module _ (s : Sizes) (lists : Bytes) (d n at : ℕ) (stamp len : ℕ) (r : InRange s) (f : listBytes s ≤ length lists) (dl : d < dictionaries) (nl : n < s .e) (pl : at < 2 * s .e) where
+module _ (s : Sizes) (lists : Bytes) (d n at : ℕ) (stamp : ℕ) (key : Bytes) (r : InRange s) (f : listBytes s ≤ length lists) (dl : d < dictionaries) (nl : n < s .e) (pl : at < 2 * s .e) where
   -- A word of the header, of another dictionary's pages, or of the blocks.
   abbrev pub Beside : ℕ → Type 0
   Beside j = (j < 6) ⊎ (((k : ℕ) × (k < dictionaries) × (k ≢ d) × (j ≡ currentAt k)) ⊎ (dictAt s dictionaries ≤ j))
@@ -41,31 +41,31 @@ module _ (s : Sizes) (lists : Bytes) (d n at : ℕ) (stamp len : ℕ) (r : InRan
   apart j (inr (inl h)) page p = let q = h .2 in (omega (arith, h .1, h .3), omega (arith, h .1, h .3), omega (arith, h .3), omega (arith, h .1, h .3))
   apart j (inr (inr h)) page p = let b = dict-from s dictionaries in (omega (arith, b), omega (arith, b), omega (arith, b), omega (arith, b))
 
-  pub words-beside : (spot : Spot) → HasRoom s len spot → (j : ℕ) → Beside j → wordAt (listsAfter s lists d n at spot stamp len) j ≡ wordAt lists j
+  pub words-beside : (spot : Spot) → HasRoom s (length key) spot → (j : ℕ) → Beside j → wordAt (listsAfter s lists d n at spot stamp key) j ≡ wordAt lists j
   unfolding listsAfter
   words-beside (Current page offset) h j b =
-      extended-other _ page (offset + len) j (apart j b page (h .0) .0) ∙ word-kept s lists d n page offset len stamp at r f dl nl pl j (off j b)
+      extended-other _ page (offset + length key) j (apart j b page (h .0) .0) ∙ word-kept s lists d n page offset (length key) stamp at (fnvOf key) r f dl nl pl j (off j b)
   words-beside (Next page) h j b =
       let a = apart j b page (h .0) in
-      took-other _ d page len j (a .0) (a .1) (a .2) (a .3) ∙ word-kept s lists d n page 0 len stamp at r f dl nl pl j (off j b)
+      took-other _ d page (length key) j (a .0) (a .1) (a .2) (a .3) ∙ word-kept s lists d n page 0 (length key) stamp at (fnvOf key) r f dl nl pl j (off j b)
   words-beside NoPage h j b = refl
   words-beside Bad h j b = refl
 
   -- A place of another dictionary.
-  pub places-beside : (spot : Spot) → HasRoom s len spot → (k j : ℕ) → k ≢ d → j < 2 * s .e
-      → quadAt (listsAfter s lists d n at spot stamp len) (placeAt s k j) ≡ quadAt lists (placeAt s k j)
+  pub places-beside : (spot : Spot) → HasRoom s (length key) spot → (k j : ℕ) → k ≢ d → j < 2 * s .e
+      → quadAt (listsAfter s lists d n at spot stamp key) (placeAt s k j) ≡ quadAt lists (placeAt s k j)
   unfolding listsAfter
   places-beside (Current page offset) h k j q l =
-      beyond-extended s _ page (offset + len) (h .0) .quads (placeAt s k j) (omega (arith, dict-from s k))
-      ∙ place-kept s lists d n page offset len stamp at r f dl nl pl k j l (λ e. absurd (q e))
+      beyond-extended s _ page (offset + length key) (h .0) .quads (placeAt s k j) (omega (arith, dict-from s k))
+      ∙ place-kept s lists d n page offset (length key) stamp at (fnvOf key) r f dl nl pl k j l (λ e. absurd (q e))
   places-beside (Next page) h k j q l =
-      beyond-took s _ d page len dl (h .0) .quads (placeAt s k j) (omega (arith, dict-from s k))
-      ∙ place-kept s lists d n page 0 len stamp at r f dl nl pl k j l (λ e. absurd (q e))
+      beyond-took s _ d page (length key) dl (h .0) .quads (placeAt s k j) (omega (arith, dict-from s k))
+      ∙ place-kept s lists d n page 0 (length key) stamp at (fnvOf key) r f dl nl pl k j l (λ e. absurd (q e))
   places-beside NoPage h k j q l = refl
   places-beside Bad h k j q l = refl
 
   -- A byte past the dictionaries' words.
-  entry-byte : (page offset i : ℕ) → 8 * dictAt s dictionaries ≤ i → getD (entryWritten s lists d n page offset len stamp at) i 0 ≡ getD lists i 0
+  entry-byte : (page offset i : ℕ) → 8 * dictAt s dictionaries ≤ i → getD (entryWritten s lists d n page offset (length key) stamp at (fnvOf key)) i 0 ≡ getD lists i 0
   unfolding entryWritten
   entry-byte page offset i l =
       let b = dict-below s d dictionaries dl in
@@ -75,11 +75,11 @@ module _ (s : Sizes) (lists : Bytes) (d n at : ℕ) (stamp len : ℕ) (r : InRan
       ∙ getD-setWord _ (orderAt s d n) _ i (λ x g. omega (arith, b))
       ∙ getD-setWord lists (entryAt s d n) _ i (λ x g. omega (arith, b))
 
-  pub bytes-beside : (spot : Spot) → HasRoom s len spot → (i : ℕ) → 8 * dictAt s dictionaries ≤ i → getD (listsAfter s lists d n at spot stamp len) i 0 ≡ getD lists i 0
+  pub bytes-beside : (spot : Spot) → HasRoom s (length key) spot → (i : ℕ) → 8 * dictAt s dictionaries ≤ i → getD (listsAfter s lists d n at spot stamp key) i 0 ≡ getD lists i 0
   unfolding listsAfter
   bytes-beside (Current page offset) h i l =
-      extended-beyond _ page (offset + len) i (omega (arith, h .0, dict-from s dictionaries)) ∙ entry-byte page offset i l
-  bytes-beside (Next page) h i l = took-beyond _ d page len dl i (omega (arith, h .0, dict-from s dictionaries)) ∙ entry-byte page 0 i l
+      extended-beyond _ page (offset + length key) i (omega (arith, h .0, dict-from s dictionaries)) ∙ entry-byte page offset i l
+  bytes-beside (Next page) h i l = took-beyond _ d page (length key) dl i (omega (arith, h .0, dict-from s dictionaries)) ∙ entry-byte page 0 i l
   bytes-beside NoPage h i l = refl
   bytes-beside Bad h i l = refl
 

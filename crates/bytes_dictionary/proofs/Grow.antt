@@ -11,6 +11,7 @@ use lib.Seq.{sets}
 use Rattle.slices.specs.Bytes.{Bytes}
 use Rattle.slices.proofs.Sets.{getD-sets-out, getD-sets-in}
 use Rattle.words.specs.Words.{wordAt, quadAt}
+use Rattle.fnv.specs.Fnv.{fnvOf}
 use Rattle.layout.specs.declared.Sizes.{Sizes}
 use Rattle.layout.specs.Sizes.{InRange, dictionaries, pageSize, pageBytes}
 use Rattle.layout.specs.Fields.{entryAt, orderAt, placeAt, pageAt, entryWord, pageOf, offsetOf, sizeOf, ownerOf, usedOf, positionOf}
@@ -50,7 +51,7 @@ bytes-apart q p o z p′ o′ n x k f f′ h l l′ = go (ℕ-discrete p p′) (
     go (no e) (no d) = omega (arith, page-below q p′ p (omega arith))
 
 module _ (s : Sizes) (r : InRange s) (pages lists lists′ : Bytes) (d n page offset stamp place : ℕ) (key : Bytes) (dl : d < dictionaries) (nl : n < s .e)
-    (fit : pageBytes s ≤ length pages) (S : Step s lists lists′ d n page offset (length key) stamp place)
+    (fit : pageBytes s ≤ length pages) (S : Step s lists lists′ d n page offset (length key) stamp place (fnvOf key))
     (P : Placed s (wordAt lists) (wordAt lists′) d page offset (length key)) where
   -- ---- the new entry's word
 

@@ -9,6 +9,7 @@ use lib.ListN.{length}
 use Rattle.slices.specs.Bytes.{Bytes}
 use Rattle.fnv.specs.Fnv.{fnvOf}
 use Rattle.layout.specs.declared.Sizes.{Sizes}
+use Rattle.layout.specs.Fields.{placeWord}
 use Rattle.bytes_index.specs.Place.{place}
 use Rattle.bytes_index.specs.Entries.{Entries, used, Stands, Met, Holds, Misses}
 use Rattle.bytes_index.proofs.Place.{place-lt}
@@ -20,7 +21,7 @@ use Rattle.bytes_dictionary.proofs.Frame.{SameBytes, stands-agree}
 module _ (s : Sizes) (B W Q B′ W′ Q′ : ℕ → ℕ) (es : Entries) (n : ℕ) (key : Bytes) (j : ℕ) where
   pub holds-more : es n ≡ none → n < s .e
       → Stands s B′ (W′ n) key
-      → Q′ j ≡ n + 1
+      → Q′ j ≡ placeWord n (fnvOf key)
       → ((i : ℕ) (k : Bytes) → es i ≡ some k → W′ i ≡ W i)
       → ((k : ℕ) → k < 2 * s .e → k ≢ j → Q′ k ≡ Q k)
       → ((i : ℕ) (k : Bytes) → es i ≡ some k → SameBytes s B B′ (W i) (length k))
@@ -61,11 +62,9 @@ module _ (s : Sizes) (B W Q B′ W′ Q′ : ℕ → ℕ) (es : Entries) (n : �
       stays : (h k : ℕ) → Q (place (2 * s .e) h k) ≢ 0 → Q′ (place (2 * s .e) h k) ≡ Q (place (2 * s .e) h k)
       stays h k f = qe (place (2 * s .e) h k) (place-lt (2 * s .e) h k (omega arith)) (λ q. f (ap Q q ∙ free))
 
-      named : (k : ℕ) → k < 2 * s .e → Dec (k ≡ j) → Q′ k ≢ 0 → (x : Bytes) × (upd es n (some key) (Q′ k - 1) ≡ some x)
-      named k l (yes q) = λ f.
-          let e : n ≡ Q′ k - 1 = omega (arith, ap Q′ q, put) in
-          (key, subst (λ (i : ℕ). upd es n (some key) i ≡ some key) e (upd-same es n (some key)))
-      named k l (no q) = rw (qe k l q) (λ f. let o = H .names k l f in (o .0, more-old es n key z (Q k - 1) (o .0) (o .1)))
+      named : (k : ℕ) → k < 2 * s .e → Dec (k ≡ j) → Q′ k ≢ 0 → (i : ℕ) × (x : Bytes) × (upd es n (some key) i ≡ some x) × (Q′ k ≡ placeWord i (fnvOf x))
+      named k l (yes q) = λ f. (n, key, upd-same es n (some key), ap Q′ q ∙ put)
+      named k l (no q) = rw (qe k l q) (λ f. let o = H .names k l f in (o .0, o .1, more-old es n key z (o .0) (o .1) (o .2), o .3))
 
       moved : (h i : ℕ) → Met Q (2 * s .e) h i → Met Q′ (2 * s .e) h i
       moved h i N =

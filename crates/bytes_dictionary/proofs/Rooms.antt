@@ -150,9 +150,9 @@ beyond-took s lists d page used dl l =
       counts = λ k h. took-other lists d page used (countAt k) (omega arith) (omega arith) (omega arith) (omega arith);
     }
 
-pub step-beyond : (s : Sizes) (lists lists₁ lists₂ : Bytes) (d n page offset len stamp place : ℕ) → d < dictionaries → SameBeyond s lists₁ lists₂
-    → Step s lists lists₁ d n page offset len stamp place → Step s lists lists₂ d n page offset len stamp place
-step-beyond s lists lists₁ lists₂ d n page offset len stamp place dl B S =
+pub step-beyond : (s : Sizes) (lists lists₁ lists₂ : Bytes) (d n page offset len stamp place h : ℕ) → d < dictionaries → SameBeyond s lists₁ lists₂
+    → Step s lists lists₁ d n page offset len stamp place h → Step s lists lists₂ d n page offset len stamp place h
+step-beyond s lists lists₁ lists₂ d n page offset len stamp place h dl B S =
     record {
       entry = B .words (entryAt s d n) (omega (arith, dict-from s d)) ∙ S .entry;
       order = B .words (orderAt s d n) (omega (arith, dict-from s d)) ∙ S .order;

@@ -11,17 +11,17 @@ use Rattle.words.specs.Words.{wordAt, quadAt, setWord, setQuad}
 use Rattle.words.proofs.Laws.{length-setWord, length-setQuad, word-set-same, word-set-other, quad-set-same, quad-set-other, word-set-quad, quad-set-word}
 use Rattle.layout.specs.declared.Sizes.{Sizes}
 use Rattle.layout.specs.Sizes.{InRange, dictionaries, listBytes}
-use Rattle.layout.specs.Fields.{untakenAt, currentAt, takenAt, pageAt, countAt, dictAt, entryAt, orderAt, placeAt, entryWord}
+use Rattle.layout.specs.Fields.{untakenAt, currentAt, takenAt, pageAt, countAt, dictAt, entryAt, orderAt, placeAt, entryWord, placeWord}
 use Rattle.layout.proofs.Places.{dict-below, dict-from, list-bytes}
 use Rattle.bytes_buffer.proofs.Tables.{SameTables}
 use Rattle.bytes_dictionary.specs.Written.{entryWritten}
 use Rattle.bytes_dictionary.proofs.Reading.{words-in}
 
 -- What the words of the dictionaries are after entry number n of dictionary d was written.
-pub record Step (s : Sizes) (lists lists′ : Bytes) (d n page offset len stamp place : ℕ) : Type 0 where
+pub record Step (s : Sizes) (lists lists′ : Bytes) (d n page offset len stamp place h : ℕ) : Type 0 where
   pub entry : wordAt lists′ (entryAt s d n) ≡ entryWord page offset len
   pub order : wordAt lists′ (orderAt s d n) ≡ stamp
-  pub named : quadAt lists′ (placeAt s d place) ≡ n + 1
+  pub named : quadAt lists′ (placeAt s d place) ≡ placeWord n h
   pub counted : wordAt lists′ (countAt d) ≡ n + 1
   pub entries : (k i : ℕ) → k < dictionaries → i < s .e → (k ≡ d → i ≢ n) → wordAt lists′ (entryAt s k i) ≡ wordAt lists (entryAt s k i)
   pub orders : (k i : ℕ) → k < dictionaries → i < s .e → (k ≡ d → i ≢ n) → wordAt lists′ (orderAt s k i) ≡ wordAt lists (orderAt s k i)
@@ -93,7 +93,7 @@ off-behind s d n j nl dl l =
 
 -- ---- the entry's own words
 
-module _ (s : Sizes) (lists : Bytes) (d n page offset len stamp place : ℕ) where
+module _ (s : Sizes) (lists : Bytes) (d n page offset len stamp place h : ℕ) where
   -- the lists after the first, the second and the third store
   one : Bytes
   one = setWord lists (entryAt s d n) (entryWord page offset len)
@@ -102,9 +102,9 @@ module _ (s : Sizes) (lists : Bytes) (d n page offset len stamp place : ℕ) whe
   two = setWord one (orderAt s d n) stamp
 
   three : Bytes
-  three = setQuad two (placeAt s d place) (n + 1)
+  three = setQuad two (placeAt s d place) (placeWord n h)
 
-  pub length-written : length (entryWritten s lists d n page offset len stamp place) ≡ length lists
+  pub length-written : length (entryWritten s lists d n page offset len stamp place h) ≡ length lists
   unfolding entryWritten
   length-written = simp (length-setWord, length-setQuad)
 
@@ -112,20 +112,20 @@ module _ (s : Sizes) (lists : Bytes) (d n page offset len stamp place : ℕ) whe
     inside : 8 * (dictAt s d + 3 * s .e) ≤ length lists
     inside = omega (arith, words-in s d r dl)
 
-    pub word-kept : (j : ℕ) → Off s d n j → wordAt (entryWritten s lists d n page offset len stamp place) j ≡ wordAt lists j
+    pub word-kept : (j : ℕ) → Off s d n j → wordAt (entryWritten s lists d n page offset len stamp place h) j ≡ wordAt lists j
     unfolding entryWritten one two three
     word-kept j o =
         word-set-other three (countAt d) j (n + 1) (o .count)
-        ∙ word-set-quad two j (placeAt s d place) (n + 1) (word-off s d place j pl (o .places))
+        ∙ word-set-quad two j (placeAt s d place) (placeWord n h) (word-off s d place j pl (o .places))
         ∙ word-set-other one (orderAt s d n) j stamp (o .order)
         ∙ word-set-other lists (entryAt s d n) j (entryWord page offset len) (o .entry)
 
     -- A place of any dictionary but the one written.
-    pub place-kept : (k j : ℕ) → j < 2 * s .e → (k ≡ d → j ≢ place) → quadAt (entryWritten s lists d n page offset len stamp place) (placeAt s k j) ≡ quadAt lists (placeAt s k j)
+    pub place-kept : (k j : ℕ) → j < 2 * s .e → (k ≡ d → j ≢ place) → quadAt (entryWritten s lists d n page offset len stamp place h) (placeAt s k j) ≡ quadAt lists (placeAt s k j)
     unfolding entryWritten one two three
     place-kept k j l o =
         quad-set-word three (placeAt s k j) (countAt d) (n + 1) (place-off s k j (countAt d) l (inl (omega (arith, dict-from s k))))
-        ∙ quad-set-other two (placeAt s d place) (placeAt s k j) (n + 1) (other (sides s k d))
+        ∙ quad-set-other two (placeAt s d place) (placeAt s k j) (placeWord n h) (other (sides s k d))
         ∙ quad-set-word one (placeAt s k j) (orderAt s d n) stamp (place-off s k j (orderAt s d n) l (off (s .e + n) (omega arith) (sides s k d)))
         ∙ quad-set-word lists (placeAt s k j) (entryAt s d n) (entryWord page offset len) (place-off s k j (entryAt s d n) l (off n (omega arith) (sides s k d)))
       where
@@ -145,9 +145,9 @@ module _ (s : Sizes) (lists : Bytes) (d n page offset len stamp place : ℕ) whe
             far (inl h) = inr (omega arith)
             far (inr h) = inl (omega arith)
 
-    pub written : entryWord page offset len < 2 ^ 64 → stamp < 2 ^ 64 → Step s lists (entryWritten s lists d n page offset len stamp place) d n page offset len stamp place
+    pub written : entryWord page offset len < 2 ^ 64 → stamp < 2 ^ 64 → placeWord n h < 2 ^ 32 → Step s lists (entryWritten s lists d n page offset len stamp place h) d n page offset len stamp place h
     unfolding entryWritten one two three
-    written we ws =
+    written we ws wq =
         let b = dict-from s d in
         let e : wordAt two (entryAt s d n) ≡ entryWord page offset len =
         word-set-other one (orderAt s d n) (entryAt s d n) stamp (omega arith) ∙ word-set-same lists (entryAt s d n) (entryWord page offset len) (omega (arith, inside)) we in
@@ -155,15 +155,15 @@ module _ (s : Sizes) (lists : Bytes) (d n page offset len stamp place : ℕ) whe
         record {
           entry =
               word-set-other three (countAt d) (entryAt s d n) (n + 1) (omega arith)
-              ∙ word-set-quad two (entryAt s d n) (placeAt s d place) (n + 1) (word-off s d place (entryAt s d n) pl (inl (omega arith)))
+              ∙ word-set-quad two (entryAt s d n) (placeAt s d place) (placeWord n h) (word-off s d place (entryAt s d n) pl (inl (omega arith)))
               ∙ e;
           order =
               word-set-other three (countAt d) (orderAt s d n) (n + 1) (omega arith)
-              ∙ word-set-quad two (orderAt s d n) (placeAt s d place) (n + 1) (word-off s d place (orderAt s d n) pl (inl (omega arith)))
+              ∙ word-set-quad two (orderAt s d n) (placeAt s d place) (placeWord n h) (word-off s d place (orderAt s d n) pl (inl (omega arith)))
               ∙ t;
           named =
               quad-set-word three (placeAt s d place) (countAt d) (n + 1) (place-off s d place (countAt d) pl (inl (omega arith)))
-              ∙ quad-set-same two (placeAt s d place) (n + 1) (simp length-setWord (omega (arith, inside))) (omega (arith, r .e));
+              ∙ quad-set-same two (placeAt s d place) (placeWord n h) (simp length-setWord (omega (arith, inside))) wq;
           counted = word-set-same three (countAt d) (n + 1) (simp (length-setWord, length-setQuad) (omega (arith, list-bytes s))) (omega (arith, r .e));
           entries = λ k i kl il o. word-kept (entryAt s k i) (off-dict s d n k i nl dl (omega arith) (λ q. (o q, omega arith)));
           orders = λ k i kl il o. word-kept (orderAt s k i) (off-dict s d n k (s .e + i) nl dl (omega arith) (λ q. let z = o q in (omega arith, omega arith)));
@@ -172,7 +172,7 @@ module _ (s : Sizes) (lists : Bytes) (d n page offset len stamp place : ℕ) whe
         }
 
     -- The pages' words are as they were.
-    pub tables-kept : SameTables s (wordAt lists) (wordAt (entryWritten s lists d n page offset len stamp place))
+    pub tables-kept : SameTables s (wordAt lists) (wordAt (entryWritten s lists d n page offset len stamp place h))
     tables-kept =
         record {
           lowest = word-kept untakenAt (off-below s d n untakenAt (omega arith) (omega arith));

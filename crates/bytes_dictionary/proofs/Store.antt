@@ -12,6 +12,7 @@ use lib.Seq.{sets, length-sets}
 use Rattle.slices.specs.Bytes.{Bytes}
 use Rattle.slices.proofs.Tests.{Split, split}
 use Rattle.words.specs.Words.{wordAt, quadAt}
+use Rattle.fnv.specs.Fnv.{fnvOf}
 use Rattle.layout.specs.declared.Sizes.{Sizes}
 use Rattle.layout.specs.Sizes.{InRange, dictionaries, pageSize, pageBytes, listBytes}
 use Rattle.layout.specs.Fields.{untakenAt, placeAt}
@@ -19,6 +20,7 @@ use Rattle.layout.proofs.Ranges.{page-size}
 use Rattle.layout.proofs.Opened.{opened-length}
 use Rattle.bytes_index.specs.Entries.{Entries, Misses}
 use Rattle.bytes_index.specs.Search.{Fits}
+use Rattle.bytes_index.proofs.Index.{place-fits}
 use Rattle.bytes_buffer.specs.declared.Spot.{Spot}
 use Rattle.bytes_buffer.specs.declared.Spot.the-variants.{Current, Next, NoPage, Bad}
 use Rattle.bytes_buffer.specs.Pages.{fits, upd, grownAt, allPages}
@@ -50,12 +52,12 @@ length-pages s pages (Next page) key = length-sets pages (page * pageSize s + 0)
 length-pages s pages NoPage key = refl
 length-pages s pages Bad key = refl
 
-pub length-lists : (s : Sizes) (lists : Bytes) (d n place : ℕ) (spot : Spot) (stamp len : ℕ) → length (listsAfter s lists d n place spot stamp len) ≡ length lists
+pub length-lists : (s : Sizes) (lists : Bytes) (d n place : ℕ) (spot : Spot) (stamp : ℕ) (key : Bytes) → length (listsAfter s lists d n place spot stamp key) ≡ length lists
 unfolding listsAfter
-length-lists s lists d n place (Current page offset) stamp len = length-extended _ page (offset + len) ∙ length-written s lists d n page offset len stamp place
-length-lists s lists d n place (Next page) stamp len = length-took _ d page len ∙ length-written s lists d n page 0 len stamp place
-length-lists s lists d n place NoPage stamp len = refl
-length-lists s lists d n place Bad stamp len = refl
+length-lists s lists d n place (Current page offset) stamp key = length-extended _ page (offset + length key) ∙ length-written s lists d n page offset (length key) stamp place (fnvOf key)
+length-lists s lists d n place (Next page) stamp key = length-took _ d page (length key) ∙ length-written s lists d n page 0 (length key) stamp place (fnvOf key)
+length-lists s lists d n place NoPage stamp key = refl
+length-lists s lists d n place Bad stamp key = refl
 
 -- ---- one insert
 
@@ -71,7 +73,7 @@ module _ (s : Sizes) (st : Store) (pages lists : Bytes) (d place stamp : ℕ) (k
     (later : (i : ℕ) → i + 1 ≡ st .count d → st .stamp d i < stamp) (pl : place < 2 * s .e)
     (M : Misses s (λ j. quadAt lists (placeAt s d j)) (st .entries d) key place) where
   -- From what the words are after it, wherever the entry lies.
-  finish : (page offset : ℕ) (lists′ : Bytes) → Step s lists lists′ d (st .count d) page offset (length key) stamp place
+  finish : (page offset : ℕ) (lists′ : Bytes) → Step s lists lists′ d (st .count d) page offset (length key) stamp place (fnvOf key)
       → Placed s (wordAt lists) (wordAt lists′) d page offset (length key) → PagesAt s (grownAt s (st .space) d (length key)) (wordAt lists′)
       → length lists′ ≡ length lists → ((j : ℕ) → j < 6 → wordAt lists′ j ≡ wordAt lists j)
       → StoreAt s (inserted s st d key stamp) (sets pages (page * pageSize s + offset) key) lists′
@@ -101,21 +103,22 @@ module _ (s : Sizes) (st : Store) (pages lists : Bytes) (d place stamp : ℕ) (k
   -- The lists with the entry's own words.
   module _ (page offset : ℕ) (p : page < s .n) (i : offset + length key ≤ pageSize s) where
     lists₁ : Bytes
-    lists₁ = entryWritten s lists d (st .count d) page offset (length key) stamp place
+    lists₁ = entryWritten s lists d (st .count d) page offset (length key) stamp place (fnvOf key)
 
-    step₁ : Step s lists lists₁ d (st .count d) page offset (length key) stamp place
+    step₁ : Step s lists lists₁ d (st .count d) page offset (length key) stamp place (fnvOf key)
     unfolding lists₁
     step₁ =
-        written s lists d (st .count d) page offset (length key) stamp place (F .ranged) (F .lists-fit) (F .known) room pl
+        written s lists d (st .count d) page offset (length key) stamp place (fnvOf key) (F .ranged) (F .lists-fit) (F .known) room pl
         (omega (arith, page-size s (F .ranged), F .ranged .n)) stamp-fits
+        (place-fits (st .count d) key (omega (arith, room, F .ranged .e)))
 
     tables₁ : SameTables s (wordAt lists) (wordAt lists₁)
     unfolding lists₁
-    tables₁ = tables-kept s lists d (st .count d) page offset (length key) stamp place (F .ranged) (F .lists-fit) (F .known) room pl
+    tables₁ = tables-kept s lists d (st .count d) page offset (length key) stamp place (fnvOf key) (F .ranged) (F .lists-fit) (F .known) room pl
 
     fits₁ : listBytes s ≤ length lists₁
     unfolding lists₁
-    fits₁ = subst (λ (x : ℕ). listBytes s ≤ x) (sym (length-written s lists d (st .count d) page offset (length key) stamp place)) (F .lists-fit)
+    fits₁ = subst (λ (x : ℕ). listBytes s ≤ x) (sym (length-written s lists d (st .count d) page offset (length key) stamp place (fnvOf key))) (F .lists-fit)
 
     pages₁ : PagesAt s (st .space) (wordAt lists₁)
     pages₁ = framed s (st .space) (wordAt lists) (wordAt lists₁) (S .paged) tables₁
@@ -123,7 +126,7 @@ module _ (s : Sizes) (st : Store) (pages lists : Bytes) (d place stamp : ℕ) (k
   -- Behind what the current page has.
   store-current : fits (s .p) (st .space d) (length key) ≡ true
       → let spot = Current (currentOf (wordAt lists) d) (st .space d .used) in
-      StoreAt s (inserted s st d key stamp) (pagesAfter s pages spot key) (listsAfter s lists d (st .count d) place spot stamp (length key))
+      StoreAt s (inserted s st d key stamp) (pagesAfter s pages spot key) (listsAfter s lists d (st .count d) place spot stamp key)
   unfolding pagesAfter listsAfter lists₁
   store-current e =
       let x = fits-facts (s .p) (st .space d) (length key) e in
@@ -141,45 +144,45 @@ module _ (s : Sizes) (st : Store) (pages lists : Bytes) (d place stamp : ℕ) (k
       subst (λ (y : ℕ). Placed s (wordAt L) (wordAt (extended L y (o + length key))) d y o (length key)) c
       (placed-current s (st .space) L d (length key) (F .ranged) (fits₁ g o p i) (pages₁ g o p i) (F .known) e) in
       finish g o (extended L g (o + length key))
-      (step-beyond s lists L _ d (st .count d) g o (length key) stamp place (F .known) (beyond-extended s L g (o + length key) p) (step₁ g o p i))
+      (step-beyond s lists L _ d (st .count d) g o (length key) stamp place (fnvOf key) (F .known) (beyond-extended s L g (o + length key) p) (step₁ g o p i))
       (placed-same s (wordAt lists) (wordAt L) _ d g o (length key) A P)
       H
-      (length-lists s lists d (st .count d) place (Current g o) stamp (length key))
-      (λ j h. words-beside s lists d (st .count d) place stamp (length key) (F .ranged) (F .lists-fit) (F .known) room pl (Current g o) (p, i) j (inl h))
+      (length-lists s lists d (st .count d) place (Current g o) stamp key)
+      (λ j h. words-beside s lists d (st .count d) place stamp key (F .ranged) (F .lists-fit) (F .known) room pl (Current g o) (p, i) j (inl h))
 
   -- At the front of the lowest untaken page.
   store-next : fits (s .p) (st .space d) (length key) ≡ false → allPages (st .space) < s .n
       → let spot = Next (allPages (st .space)) in
-      StoreAt s (inserted s st d key stamp) (pagesAfter s pages spot key) (listsAfter s lists d (st .count d) place spot stamp (length key))
+      StoreAt s (inserted s st d key stamp) (pagesAfter s pages spot key) (listsAfter s lists d (st .count d) place spot stamp key)
   unfolding pagesAfter listsAfter lists₁
   store-next e p =
       let g : ℕ = allPages (st .space) in
       let i : 0 + length key ≤ pageSize s = omega arith in
       let L : Bytes = lists₁ g 0 p i in
       finish g 0 (tookPage L d g (length key))
-      (step-beyond s lists L _ d (st .count d) g 0 (length key) stamp place (F .known) (beyond-took s L d g (length key) (F .known) p) (step₁ g 0 p i))
+      (step-beyond s lists L _ d (st .count d) g 0 (length key) stamp place (fnvOf key) (F .known) (beyond-took s L d g (length key) (F .known) p) (step₁ g 0 p i))
       (placed-same s (wordAt lists) (wordAt L) _ d g 0 (length key) (tables₁ g 0 p i)
       (placed-next s (st .space) L d (length key) (F .ranged) (fits₁ g 0 p i) (pages₁ g 0 p i) (F .known) e short p))
       (took-holds s (st .space) L d (length key) (F .ranged) (fits₁ g 0 p i) (pages₁ g 0 p i) (F .known) e short p)
-      (length-lists s lists d (st .count d) place (Next g) stamp (length key))
-      (λ j h. words-beside s lists d (st .count d) place stamp (length key) (F .ranged) (F .lists-fit) (F .known) room pl (Next g) (p, short) j (inl h))
+      (length-lists s lists d (st .count d) place (Next g) stamp key)
+      (λ j h. words-beside s lists d (st .count d) place stamp key (F .ranged) (F .lists-fit) (F .known) room pl (Next g) (p, short) j (inl h))
 
   pub store-more : (spot : Spot) → spotIn s (wordAt lists) d (wordAt lists untakenAt) (length key) ≡ spot → IsSpot spot
-      → StoreAt s (inserted s st d key stamp) (pagesAfter s pages spot key) (listsAfter s lists d (st .count d) place spot stamp (length key))
+      → StoreAt s (inserted s st d key stamp) (pagesAfter s pages spot key) (listsAfter s lists d (st .count d) place spot stamp key)
   store-more spot q ok = go (split (fits (s .p) (st .space d) (length key))) (decLt (allPages (st .space)) (s .n))
     where
       W : ℕ → ℕ
       W = wordAt lists
 
-      at-spot : {x : Spot} → spot ≡ x → StoreAt s (inserted s st d key stamp) (pagesAfter s pages x key) (listsAfter s lists d (st .count d) place x stamp (length key))
-          → StoreAt s (inserted s st d key stamp) (pagesAfter s pages spot key) (listsAfter s lists d (st .count d) place spot stamp (length key))
-      at-spot e h = subst (λ (y : Spot). StoreAt s (inserted s st d key stamp) (pagesAfter s pages y key) (listsAfter s lists d (st .count d) place y stamp (length key))) (sym e) h
+      at-spot : {x : Spot} → spot ≡ x → StoreAt s (inserted s st d key stamp) (pagesAfter s pages x key) (listsAfter s lists d (st .count d) place x stamp key)
+          → StoreAt s (inserted s st d key stamp) (pagesAfter s pages spot key) (listsAfter s lists d (st .count d) place spot stamp key)
+      at-spot e h = subst (λ (y : Spot). StoreAt s (inserted s st d key stamp) (pagesAfter s pages y key) (listsAfter s lists d (st .count d) place y stamp key)) (sym e) h
 
       low : W untakenAt ≡ allPages (st .space)
       low = S .paged .lowest
 
       go : Split (fits (s .p) (st .space d) (length key)) → Dec (allPages (st .space) < s .n)
-          → StoreAt s (inserted s st d key stamp) (pagesAfter s pages spot key) (listsAfter s lists d (st .count d) place spot stamp (length key))
+          → StoreAt s (inserted s st d key stamp) (pagesAfter s pages spot key) (listsAfter s lists d (st .count d) place spot stamp key)
       go (inl e) h = at-spot (sym q ∙ plan-fit s (st .space) W d (W untakenAt) (length key) (S .paged) (F .known) e) (store-current e)
       go (inr e) (yes h) =
           at-spot (sym q ∙ plan-unfit s (st .space) W d (W untakenAt) (length key) (S .paged) (F .known) e ∙ ap (nextOf s) low ∙ next-is s (allPages (st .space)) h) (store-next e h)
@@ -191,7 +194,7 @@ module _ (s : Sizes) (st : Store) (pages lists : Bytes) (d place stamp : ℕ) (k
 
 pub store-insert : (s : Sizes) (st : Store) (pages lists : Bytes) (d place : ℕ) (spot : Spot) (stamp : ℕ) (key : Bytes)
     → InRange s → pageBytes s ≤ length pages → listBytes s ≤ length lists → StoreAt s st pages lists → Ready s st pages lists d place spot stamp key
-    → StoreAt s (inserted s st d key stamp) (pagesAfter s pages spot key) (listsAfter s lists d (st .count d) place spot stamp (length key))
+    → StoreAt s (inserted s st d key stamp) (pagesAfter s pages spot key) (listsAfter s lists d (st .count d) place spot stamp key)
 store-insert s st pages lists d place spot stamp key r f g S R =
     store-more s st pages lists d place stamp key (record { ranged = r; pages-fit = f; lists-fit = g; known = R .known }) S (R .room) (R .short) (R .stamp-fits) (R .later)
     (R .searched .range)
@@ -208,7 +211,7 @@ reached-holds s r (opened pages lists f g) =
 reached-holds s r (after {st = st} {pages = pages} {lists = lists} t d place spot stamp key R) =
     let h = reached-holds s r t in (
       subst (λ (x : ℕ). pageBytes s ≤ x) (sym (length-pages s pages spot key)) (h .0),
-      subst (λ (x : ℕ). listBytes s ≤ x) (sym (length-lists s lists d (st .count d) place spot stamp (length key))) (h .1),
+      subst (λ (x : ℕ). listBytes s ≤ x) (sym (length-lists s lists d (st .count d) place spot stamp key)) (h .1),
       store-insert s st pages lists d place spot stamp key r (h .0) (h .1) (h .2) R,
     )
 

@@ -32,4 +32,4 @@ pub data Reached (s : Sizes) : Store → Bytes → Bytes → Type 0 where
   opened : (pages lists : Bytes) → pageBytes s ≤ length pages → listBytes s ≤ length lists → Reached s emptyStore pages (openedLists s lists)
   after : {st : Store} {pages lists : Bytes} → Reached s st pages lists → (d place : ℕ) (spot : Spot) (stamp : ℕ) (key : Bytes)
       → Ready s st pages lists d place spot stamp key
-      → Reached s (inserted s st d key stamp) (pagesAfter s pages spot key) (listsAfter s lists d (st .count d) place spot stamp (length key))
+      → Reached s (inserted s st d key stamp) (pagesAfter s pages spot key) (listsAfter s lists d (st .count d) place spot stamp key)

@@ -1,23 +1,25 @@
 -- The memory after an insert. Assumes nothing.
 use Prim.Native.Nat.{ℕ, _+_, _*_, _<_, _≤_}
+use lib.ListN.{length}
 use lib.Seq.{sets}
 use Rattle.slices.specs.Bytes.{Bytes}
 use Rattle.words.specs.Words.{setWord, setQuad}
+use Rattle.fnv.specs.Fnv.{fnvOf}
 use Rattle.layout.specs.declared.Sizes.{Sizes}
 use Rattle.layout.specs.Sizes.{pageSize}
-use Rattle.layout.specs.Fields.{countAt, entryAt, orderAt, placeAt, entryWord}
+use Rattle.layout.specs.Fields.{countAt, entryAt, orderAt, placeAt, entryWord, placeWord}
 use Rattle.bytes_buffer.specs.declared.Spot.{Spot}
 use Rattle.bytes_buffer.specs.declared.Spot.the-variants.{Current, Next, NoPage, Bad}
 use Rattle.bytes_buffer.specs.Spots.{extended, tookPage}
 
--- The words of entry number n: where it lies, its stamp, the index place that names it, and the count.
-unfoldable pub entryWritten : Sizes → Bytes → ℕ → ℕ → ℕ → ℕ → ℕ → ℕ → ℕ → Bytes
-entryWritten s lists d n page offset len stamp place =
+-- The words of entry number n, whose key has the hash h: where it lies, its stamp, the index place that names it, and the count.
+unfoldable pub entryWritten : Sizes → Bytes → ℕ → ℕ → ℕ → ℕ → ℕ → ℕ → ℕ → ℕ → Bytes
+entryWritten s lists d n page offset len stamp place h =
     setWord
     (setQuad
     (setWord (setWord lists (entryAt s d n) (entryWord page offset len)) (orderAt s d n) stamp)
     (placeAt s d place)
-    (n + 1))
+    (placeWord n h))
     (countAt d)
     (n + 1)
 
@@ -28,11 +30,12 @@ pagesAfter s pages (Next page) key = sets pages (page * pageSize s + 0) key
 pagesAfter s pages NoPage key = pages
 pagesAfter s pages Bad key = pages
 
-unfoldable pub listsAfter : Sizes → Bytes → ℕ → ℕ → ℕ → Spot → ℕ → ℕ → Bytes
-listsAfter s lists d n place (Current page offset) stamp len = extended (entryWritten s lists d n page offset len stamp place) page (offset + len)
-listsAfter s lists d n place (Next page) stamp len = tookPage (entryWritten s lists d n page 0 len stamp place) d page len
-listsAfter s lists d n place NoPage stamp len = lists
-listsAfter s lists d n place Bad stamp len = lists
+unfoldable pub listsAfter : Sizes → Bytes → ℕ → ℕ → ℕ → Spot → ℕ → Bytes → Bytes
+listsAfter s lists d n place (Current page offset) stamp key =
+    extended (entryWritten s lists d n page offset (length key) stamp place (fnvOf key)) page (offset + length key)
+listsAfter s lists d n place (Next page) stamp key = tookPage (entryWritten s lists d n page 0 (length key) stamp place (fnvOf key)) d page (length key)
+listsAfter s lists d n place NoPage stamp key = lists
+listsAfter s lists d n place Bad stamp key = lists
 
 -- A spot that has room for an entry of len bytes, as every plan's has.
 abbrev pub HasRoom : Sizes → ℕ → Spot → Type 0

@@ -2,6 +2,7 @@
 use bytes_buffer::Spot;
 use bytes_index::Span;
 use layout::COUNT;
+use layout::ENTRY_NUMBERS;
 use layout::LENGTH;
 use layout::PAGE_NUMBERS;
 use layout::Sizes;
@@ -12,8 +13,9 @@ ghost use lib.ListN.{length, take, drop};
 ghost use lib.Seq.{sets};
 ghost use Rattle.words.specs.Words.{wordAt};
 ghost use Rattle.parts.specs.Parts.{bytesOf};
+ghost use Rattle.fnv.specs.Fnv.{fnvOf};
 ghost use Rattle.layout.specs.Sizes.{InRange, dictionaries, pageSize, listBytes};
-ghost use Rattle.layout.specs.Fields.{countAt, entryWord};
+ghost use Rattle.layout.specs.Fields.{countAt, entryWord, placeWord};
 ghost use Rattle.bytes_index.specs.Search.{keyOf, Fits};
 ghost use Rattle.bytes_dictionary.specs.Written.{entryWritten, pagesAfter, listsAfter, HasRoom};
 ghost use Rattle.bytes_dictionary.specs.Reading.{countIn, Looked};
@@ -67,7 +69,15 @@ fn pack(page: usize, offset: usize, len: usize) -> usize
     page + PAGE_NUMBERS * offset + LENGTH * len
 }
 
-// Writes the words of entry number n: where it lies, its stamp, the place that names it, and the count.
+// What an index place has of entry number n, whose key has the hash h.
+fn place_word(n: usize, h: u32) -> usize
+    requires { ⌜ n < 1048576 ⌝ }
+    ensures { λ r. ⌜ r ≡ placeWord n h ⌝ }
+{
+    n + 1 + ENTRY_NUMBERS * bytes_index::top_bits(h)
+}
+
+// Writes the words of entry number n, whose key has the hash h: where it lies, its stamp, the place that names it, and the count.
 fn write_entry(
     lists: &mut [u8],
     s: Sizes,
@@ -78,25 +88,27 @@ fn write_entry(
     len: usize,
     stamp: usize,
     place: usize,
+    h: u32,
 )
     requires { ⌜ InRange s × (listBytes s ≤ length (now lists)) × (d < dictionaries) × (n < s .e) × (place < 2 * s .e) ⌝ }
     requires { ⌜ (page < 1024) × (offset ≤ 1048576) × (len ≤ 1048576) ⌝ }
-    ensures { λ _. ⌜ now (lists .exit) ≡ entryWritten s (now (lists .entry)) d n page offset len stamp place ⌝ }
+    ensures { λ _. ⌜ now (lists .exit) ≡ entryWritten s (now (lists .entry)) d n page offset len stamp place h ⌝ }
 {
     let e = s.e;
     let base = layout::dict_at(s, d);
     words::put_word(lists, base + n, pack(page, offset, len));
     words::put_word(lists, base + (e + n), stamp);
-    words::put_quad(lists, 2 * (base + 2 * e) + place, n + 1);
+    words::put_quad(lists, 2 * (base + 2 * e) + place, place_word(n, h));
     words::put_word(lists, COUNT + 4 * d, n + 1);
 }
 
-// What a fresh entry gets: its dictionary and its number there, the index place that names it, and its stamp.
+// What a fresh entry gets: its dictionary and its number there, the index place that names it, and its stamp; and its key's hash.
 struct Fresh {
     d: usize,
     n: usize,
     place: usize,
     stamp: usize,
+    h: u32,
 }
 
 // Writes an entry at an offset of a page, and gives its length.
@@ -116,16 +128,16 @@ fn write_at(
     requires { ⌜ (page < s .n) × (offset + length (keyOf (now prefix) mode (now tag) (now rest)) ≤ pageSize s) ⌝ }
     ensures length { λ r. ⌜ r ≡ length (keyOf (now (prefix .entry)) mode (now (tag .entry)) (now (rest .entry))) ⌝ }
     ensures pages { λ _. ⌜ now (pages .exit) ≡ sets (now (pages .entry)) (page * pageSize s + offset) (keyOf (now (prefix .entry)) mode (now (tag .entry)) (now (rest .entry))) ⌝ }
-    ensures lists { λ r. ⌜ now (lists .exit) ≡ entryWritten s (now (lists .entry)) (x .d) (x .n) page offset r (x .stamp) (x .place) ⌝ }
+    ensures lists { λ r. ⌜ now (lists .exit) ≡ entryWritten s (now (lists .entry)) (x .d) (x .n) page offset r (x .stamp) (x .place) (x .h) ⌝ }
 {
     let len = prefix.len() + parts::measure(mode, tag) + rest.len();
     let at = page * layout::page_size(s) + offset;
     write_key(pages, at, prefix, mode, tag, rest);
-    write_entry(lists, s, x.d, x.n, page, offset, len, x.stamp, x.place);
+    write_entry(lists, s, x.d, x.n, page, offset, len, x.stamp, x.place, x.h);
     len
 }
 
-// Writes a fresh key as entry number n where it was planned. It cannot fail; a plan without a spot has nothing written.
+// Writes a fresh key, whose hash is h, as entry number n where it was planned. It cannot fail; a plan without a spot has nothing written.
 pub fn insert(
     pages: &mut [u8],
     lists: &mut [u8],
@@ -135,6 +147,7 @@ pub fn insert(
     place: usize,
     spot: Spot,
     stamp: usize,
+    h: u32,
     prefix: &[u8],
     mode: Mode,
     tag: &[u8],
@@ -142,10 +155,17 @@ pub fn insert(
 )
     requires { ⌜ Fits s (now pages) (now lists) d × (n < s .e) × (place < 2 * s .e) ⌝ }
     requires { ⌜ HasRoom s (length (keyOf (now prefix) mode (now tag) (now rest))) spot ⌝ }
+    requires { ⌜ h ≡ fnvOf (keyOf (now prefix) mode (now tag) (now rest)) ⌝ }
     ensures pages { λ _. ⌜ now (pages .exit) ≡ pagesAfter s (now (pages .entry)) spot (keyOf (now (prefix .entry)) mode (now (tag .entry)) (now (rest .entry))) ⌝ }
-    ensures lists { λ _. ⌜ now (lists .exit) ≡ listsAfter s (now (lists .entry)) d n place spot stamp (length (keyOf (now (prefix .entry)) mode (now (tag .entry)) (now (rest .entry)))) ⌝ }
+    ensures lists { λ _. ⌜ now (lists .exit) ≡ listsAfter s (now (lists .entry)) d n place spot stamp (keyOf (now (prefix .entry)) mode (now (tag .entry)) (now (rest .entry))) ⌝ }
 {
-    let x = Fresh { d, n, place, stamp };
+    let x = Fresh {
+        d,
+        n,
+        place,
+        stamp,
+        h,
+    };
     match spot {
         Spot::Current { page, offset } => {
             let len = write_at(pages, lists, s, x, page, offset, prefix, mode, tag, rest);

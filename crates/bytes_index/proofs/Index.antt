@@ -2,16 +2,17 @@
 use mathlib.Core.Path.{_≡_, _∙_, sym, ap, subst}
 use mathlib.Core.Logic.{_≢_}
 use mathlib.Core.Option.{some}
-use Prim.Native.Nat.{ℕ, _+_, _-_, _*_, _≤_, _<_}
+use Prim.Native.Nat.{ℕ, _+_, _-_, _*_, _/_, _%_, _^_, _≤_, _<_}
 use native.Mathlib.Omega.{arith}
 use native.Mathlib.Decide.{decLt}
 use lib.ListN.{length}
 use lib.Seq.{ext-getD}
 use Rattle.slices.specs.Bytes.{Bytes}
 use Rattle.fnv.specs.Fnv.{fnvOf}
+use Rattle.fnv.proofs.Laws.{fnv-lt}
 use Rattle.layout.specs.declared.Sizes.{Sizes}
 use Rattle.layout.specs.Sizes.{pageSize}
-use Rattle.layout.specs.Fields.{pageOf, offsetOf, sizeOf}
+use Rattle.layout.specs.Fields.{pageOf, offsetOf, sizeOf, placeWord, namedBy, topOf}
 use Rattle.bytes_index.specs.Place.{place}
 use Rattle.bytes_index.specs.Entries.{Entries, used, Stands, Met, Holds, Misses}
 use Rattle.bytes_index.proofs.Place.{place-onto}
@@ -23,44 +24,75 @@ stands-once s B w a b p q =
     let e : length a ≡ length b = sym (p .sized) ∙ q .sized in
     ext-getD 0 a b e (λ i l. sym (p .bytes i l) ∙ q .bytes i (omega arith))
 
--- A place that the search went past is filled, and its entry is not the key.
+-- What a place has of its entry.
+pub place-named : (i h : ℕ) → i < 1048576 → namedBy (placeWord i h) ≡ i + 1
+place-named i h l = go (h / 2097152)
+  where
+    go : (x : ℕ) → (i + 1 + 2097152 * x) % 2097152 ≡ i + 1
+    go x = omega arith
+
+pub place-top : (i h : ℕ) → i < 1048576 → topOf (placeWord i h) ≡ topOf h
+place-top i h l = go (h / 2097152)
+  where
+    go : (x : ℕ) → (i + 1 + 2097152 * x) / 2097152 ≡ x
+    go x = omega arith
+
+pub place-fits : (i : ℕ) (key : Bytes) → i < 1048576 → placeWord i (fnvOf key) < 2 ^ 32
+place-fits i key l = go (fnvOf key) (fnv-lt key)
+  where
+    go : (h : ℕ) → h < 2 ^ 32 → i + 1 + 2097152 * (h / 2097152) < 2 ^ 32
+    go h f = omega arith
+
+-- A place that the search went past is filled, and its entry is not the key: either its hash has other top bits, or its bytes are others.
 abbrev pub Passed : Sizes → (ℕ → ℕ) → (ℕ → ℕ) → Bytes → ℕ → Type 0
-Passed s B W key q = (q ≢ 0) × (Stands s B (W (q - 1)) key → ⊥)
+Passed s B W key q = (q ≢ 0) × (topOf q ≡ topOf (fnvOf key) → Stands s B (W (namedBy q - 1)) key → ⊥)
 
 -- What the code read of a place, as `Passed` of the step.
 pub passed : (s : Sizes) (B W Q : ℕ → ℕ) (key : Bytes) (m h t j q : ℕ) → place m h t ≡ j → q ≡ Q j → q ≢ 0
-    → (Stands s B (W (q - 1)) key → ⊥) → Passed s B W key (Q (place m h t))
+    → (topOf q ≡ topOf (fnvOf key) → Stands s B (W (namedBy q - 1)) key → ⊥) → Passed s B W key (Q (place m h t))
 passed s B W Q key m h t j q p r z n =
     let f : q ≡ Q (place m h t) = rw p r in
     subst (Passed s B W key) f (z, n)
 
-module _ (s : Sizes) (B W Q : ℕ → ℕ) (es : Entries) (H : Holds s B W Q es) where
+module _ (s : Sizes) (B W Q : ℕ → ℕ) (es : Entries) (H : Holds s B W Q es) (few : s .e ≤ 1048576) where
   -- A filled place names an entry in use, whose word stands for it.
   pub record Named (j : ℕ) : Type 0 where
     pub key : Bytes
-    pub in-use : es (Q j - 1) ≡ some key
-    pub below : Q j - 1 < s .e
-    pub stands : Stands s B (W (Q j - 1)) key
+    pub in-use : es (namedBy (Q j) - 1) ≡ some key
+    pub filled : 0 < namedBy (Q j)
+    pub below : namedBy (Q j) ≤ s .e
+    pub stands : Stands s B (W (namedBy (Q j) - 1)) key
 
   pub named : (j : ℕ) → j < 2 * s .e → Q j ≢ 0 → Named j
   named j l z =
       let k = H .names j l z in
-      let e = H .entry (Q j - 1) (k .0) (k .1) in
-      record { key = k .0; in-use = k .1; below = e .0; stands = e .1 }
+      let e = H .entry (k .0) (k .1) (k .2) in
+      let n : namedBy (Q j) ≡ k .0 + 1 = ap namedBy (k .3) ∙ place-named (k .0) (fnvOf (k .1)) (omega (arith, e .0)) in
+      let i : k .0 ≡ namedBy (Q j) - 1 = omega (arith, n) in
+      record {
+        key = k .1;
+        in-use = subst (λ (x : ℕ). es x ≡ some (k .1)) i (k .2);
+        filled = omega (arith, n);
+        below = omega (arith, n, e .0);
+        stands = subst (λ (x : ℕ). Stands s B (W x) (k .1)) i (e .1);
+      }
 
-  pub hit : (j : ℕ) (key : Bytes) → j < 2 * s .e → Q j ≢ 0 → Stands s B (W (Q j - 1)) key → es (Q j - 1) ≡ some key
+  pub hit : (j : ℕ) (key : Bytes) → j < 2 * s .e → Q j ≢ 0 → Stands s B (W (namedBy (Q j) - 1)) key → es (namedBy (Q j) - 1) ≡ some key
   hit j key l z t =
       let k = named j l z in
-      let e : k .key ≡ key = stands-once s B (W (Q j - 1)) (k .key) key (k .stands) t in
+      let e : k .key ≡ key = stands-once s B (W (namedBy (Q j) - 1)) (k .key) key (k .stands) t in
       k .in-use ∙ ap some e
 
-  -- No place names an entry past the last.
-  pub never-past : (j : ℕ) → j < 2 * s .e → s .e < Q j → ⊥
-  never-past j l z = omega (arith, named j l (omega arith) .below)
+  -- A filled place names an entry, and none past the last.
+  pub never-nothing : (j : ℕ) → j < 2 * s .e → Q j ≢ 0 → namedBy (Q j) ≡ 0 → ⊥
+  never-nothing j l f z = omega (arith, named j l f .filled)
+
+  pub never-past : (j : ℕ) → j < 2 * s .e → Q j ≢ 0 → s .e < namedBy (Q j) → ⊥
+  never-past j l f z = omega (arith, named j l f .below)
 
   -- An entry that the index names lies in one page.
   pub never-out : (j : ℕ) → j < 2 * s .e → Q j ≢ 0
-      → (pageOf (W (Q j - 1)) < s .n) × (offsetOf (W (Q j - 1)) + sizeOf (W (Q j - 1)) ≤ pageSize s)
+      → (pageOf (W (namedBy (Q j) - 1)) < s .n) × (offsetOf (W (namedBy (Q j) - 1)) + sizeOf (W (namedBy (Q j) - 1)) ≤ pageSize s)
   never-out j l z = let k = named j l z in (k .stands .paged, k .stands .inside)
 
   -- There is always an empty place: twice as many places as entries.
@@ -90,12 +122,16 @@ module _ (s : Sizes) (B W Q : ℕ → ℕ) (es : Entries) (H : Holds s B W Q es)
           S : Stands s B (W i) key
           S = H .entry i key q .1
 
+          low : i < 1048576
+          low = omega (arith, H .entry i key q .0)
+
           go : Dec (M .step < t) → Dec (t < M .step) → ⊥
           go (yes a) b =
-              let f : i ≡ Q (place (2 * s .e) (fnvOf key) (M .step)) - 1 = omega (arith, M .there) in
-              p (M .step) a .1 (subst (λ (x : ℕ). Stands s B (W x) key) f S)
+              let f : i ≡ namedBy (Q (place (2 * s .e) (fnvOf key) (M .step))) - 1 = omega (arith, ap namedBy (M .there), place-named i (fnvOf key) low) in
+              p (M .step) a .1 (ap topOf (M .there) ∙ place-top i (fnvOf key) low) (subst (λ (x : ℕ). Stands s B (W x) key) f S)
           go (no a) (yes b) = M .full t b z′
           go (no a) (no b) =
               let f : M .step ≡ t = omega arith in
-              let c : Q (place (2 * s .e) (fnvOf key) t) ≡ i + 1 = subst (λ (x : ℕ). Q (place (2 * s .e) (fnvOf key) x) ≡ i + 1) f (M .there) in
+              let c : Q (place (2 * s .e) (fnvOf key) t) ≡ placeWord i (fnvOf key) =
+              subst (λ (x : ℕ). Q (place (2 * s .e) (fnvOf key) x) ≡ placeWord i (fnvOf key)) f (M .there) in
               omega (arith, z′)

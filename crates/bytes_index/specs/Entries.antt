@@ -9,7 +9,7 @@ use Rattle.slices.specs.Bytes.{Bytes}
 use Rattle.fnv.specs.Fnv.{fnvOf}
 use Rattle.layout.specs.declared.Sizes.{Sizes}
 use Rattle.layout.specs.Sizes.{pageSize}
-use Rattle.layout.specs.Fields.{pageOf, offsetOf, sizeOf}
+use Rattle.layout.specs.Fields.{pageOf, offsetOf, sizeOf, placeWord}
 use Rattle.bytes_index.specs.Place.{place}
 use Rattle.bytes_index.specs.Filled.{filled}
 
@@ -32,11 +32,12 @@ pub record Stands (s : Sizes) (B : ℕ → ℕ) (w : ℕ) (key : Bytes) : Type 0
   pub sized : sizeOf w ≡ length key
   pub bytes : (k : ℕ) → k < length key → B (addressOf s w + k) ≡ getD key k 0
 
--- The search from h meets entry i: at `step`, and no place before it is empty. Q gives the dictionary's index places.
+-- The search from h meets entry i: at `step`, and no place before it is empty. Q gives the dictionary's index places. A place has the hash of its
+-- entry's key beside the entry.
 pub record Met (Q : ℕ → ℕ) (m h i : ℕ) : Type 0 where
   pub step : ℕ
   pub near : step < m
-  pub there : Q (place m h step) ≡ i + 1
+  pub there : Q (place m h step) ≡ placeWord i h
   pub full : (k : ℕ) → k < step → Q (place m h k) ≢ 0
 
 -- The place j is the first empty one from h.
@@ -50,7 +51,7 @@ pub record FreeAt (Q : ℕ → ℕ) (m h j : ℕ) : Type 0 where
 -- The memory holds these entries: B are the pages' bytes, W the entry words, Q the index places, e and 2e of them.
 pub record Holds (s : Sizes) (B W Q : ℕ → ℕ) (es : Entries) : Type 0 where
   pub entry : (i : ℕ) (key : Bytes) → es i ≡ some key → (i < s .e) × Stands s B (W i) key
-  pub names : (j : ℕ) → j < 2 * s .e → Q j ≢ 0 → (key : Bytes) × (es (Q j - 1) ≡ some key)
+  pub names : (j : ℕ) → j < 2 * s .e → Q j ≢ 0 → (i : ℕ) × (key : Bytes) × (es i ≡ some key) × (Q j ≡ placeWord i (fnvOf key))
   pub met : (i : ℕ) (key : Bytes) → es i ≡ some key → Met Q (2 * s .e) (fnvOf key) i
   pub count : filled Q (2 * s .e) ≡ filled (λ i. used (es i)) (s .e)
   pub apart : (i j : ℕ) (key : Bytes) → es i ≡ some key → es j ≡ some key → i ≡ j

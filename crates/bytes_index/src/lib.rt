@@ -1,4 +1,5 @@
 // The searched index of a dictionary's entries (Nemo's bytes_dictionary.rs, whose HashMap it replaces).
+use layout::ENTRY_NUMBERS;
 use layout::LENGTH;
 use layout::OFFSETS;
 use layout::PAGE_NUMBERS;
@@ -12,7 +13,7 @@ ghost use Rattle.fnv.specs.Fnv.{fnvOf};
 ghost use Rattle.words.specs.Words.{wordAt};
 ghost use Rattle.parts.specs.Parts.{bytesOf};
 ghost use Rattle.layout.specs.Sizes.{InRange, dictionaries, listBytes};
-ghost use Rattle.layout.specs.Fields.{entryAt};
+ghost use Rattle.layout.specs.Fields.{entryAt, topOf};
 ghost use Rattle.bytes_index.specs.Field.{Located};
 ghost use Rattle.bytes_index.specs.Search.{keyOf, frontIs, Fits, Agreeing, Searched};
 
@@ -29,7 +30,8 @@ pub enum Span {
     Bad,
 }
 
-fn hash(prefix: &[u8], mode: Mode, tag: &[u8], rest: &[u8]) -> u32
+// The hash of a key.
+pub fn hash(prefix: &[u8], mode: Mode, tag: &[u8], rest: &[u8]) -> u32
     ensures { λ r. ⌜ r ≡ fnvOf (keyOf (now (prefix .entry)) mode (now (tag .entry)) (now (rest .entry))) ⌝ }
 {
     let h = parts::hash_on(fnv::fnv(prefix), mode, tag);
@@ -43,6 +45,14 @@ fn start(h: u32, m: usize) -> usize
 {
     let h = h as usize;
     h % m
+}
+
+// The bits of a hash that its index place has.
+pub fn top_bits(h: u32) -> usize
+    ensures { λ r. ⌜ (r ≡ topOf h) × (r < 2048) ⌝ }
+{
+    let h = h as usize;
+    h / ENTRY_NUMBERS
 }
 
 // One place up, wrapping to 0.
@@ -131,18 +141,20 @@ fn agreeing(pages: &[u8], end: usize, rest: &[u8], left: usize) -> usize
     if left < 8 { left } else { 8 }
 }
 
-// Searches the index of dictionary d for a key: from its hash up, 2e places at the most, to its entry or the first empty place.
+// Searches the index of dictionary d for a key: from its hash h up, 2e places at the most, to its entry or the first empty place.
+// The caller hashes, since it knows which parts of the key are there. An entry whose hash has other top bits is another key's.
 pub fn bytes_to_id(
     pages: &[u8],
     lists: &[u8],
     s: Sizes,
     d: usize,
+    h: u32,
     prefix: &[u8],
     mode: Mode,
     tag: &[u8],
     rest: &[u8],
 ) -> Probe
-    requires { ⌜ Fits s (now pages) (now lists) d ⌝ }
+    requires { ⌜ Fits s (now pages) (now lists) d × (h ≡ fnvOf (keyOf (now prefix) mode (now tag) (now rest))) ⌝ }
     ensures { λ r. ⌜ Searched s d (now (pages .entry)) (now (lists .entry)) (keyOf (now (prefix .entry)) mode (now (tag .entry)) (now (rest .entry))) r ⌝ }
 {
     let e = s.e;
@@ -150,35 +162,42 @@ pub fn bytes_to_id(
     let places = 2 * (layout::dict_at(s, d) + m);
     let measured = parts::measure(mode, tag);
     let n = rest.len();
-    let mut j = start(hash(prefix, mode, tag, rest), m);
+    let top = top_bits(h);
+    let mut j = start(h, m);
     let mut t = 0;
     let mut w = 0;
     'probe: loop {
         if t == m {
             return Probe::Bad;
         }
-        w = words::quad_at(lists, places + j);
-        if w == 0 {
+        let q = words::quad_at(lists, places + j);
+        if q == 0 {
             return Probe::Free(j);
         }
-        if e < w {
-            return Probe::Bad;
-        }
-        let Span::At { at, len } = entry(lists, s, d, w - 1) else {
-            return Probe::Bad;
-        };
-        let end = at + len;
-        if front_is(&pages[at..end], prefix, mode, tag, measured, n) {
-            let mut left = n;
-            loop {
-                if left == 0 {
-                    break 'probe;
+        if q / ENTRY_NUMBERS == top {
+            w = q % ENTRY_NUMBERS;
+            if w == 0 {
+                return Probe::Bad;
+            }
+            if e < w {
+                return Probe::Bad;
+            }
+            let Span::At { at, len } = entry(lists, s, d, w - 1) else {
+                return Probe::Bad;
+            };
+            let end = at + len;
+            if front_is(&pages[at..end], prefix, mode, tag, measured, n) {
+                let mut left = n;
+                loop {
+                    if left == 0 {
+                        break 'probe;
+                    }
+                    let agreed = agreeing(pages, end, rest, left);
+                    if agreed == 0 {
+                        break;
+                    }
+                    left -= agreed;
                 }
-                let agreed = agreeing(pages, end, rest, left);
-                if agreed == 0 {
-                    break;
-                }
-                left -= agreed;
             }
         }
         j = up(j, m);

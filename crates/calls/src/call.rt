@@ -59,7 +59,7 @@ fn name(what: &[u8], kind: u64, first: &[u8], second: &[u8]) {
     show::text(b":");
 }
 
-pub fn add(pages: &mut [u8], lists: &mut [u8], kind: u64, first: &[u8], second: &[u8]) {
+pub fn add<'a>(pages: &mut [u8], lists: &mut [u8], kind: u64, first: &'a [u8], second: &'a [u8]) {
     name(b"add", kind, first, second);
     let before = hashed(pages, lists);
     let r = namedict::namedict_add(pages, lists, kind, first, second);
@@ -68,7 +68,7 @@ pub fn add(pages: &mut [u8], lists: &mut [u8], kind: u64, first: &[u8], second: 
     show::end();
 }
 
-pub fn find(pages: &[u8], lists: &[u8], kind: u64, first: &[u8], second: &[u8]) {
+pub fn find<'a>(pages: &[u8], lists: &[u8], kind: u64, first: &'a [u8], second: &'a [u8]) {
     name(b"find", kind, first, second);
     show::numbered(namedict::namedict_find(pages, lists, kind, first, second));
     show::end();

@@ -70,7 +70,14 @@ fn right(number: u64, kind: u64, n: usize, both: &[u8], pages: &[u8], lists: &[u
 }
 
 // A call with a name.
-fn name(op: u8, kind: u64, first: &[u8], second: &[u8], pages: &mut [u8], lists: &mut [u8]) {
+fn name<'a>(
+    op: u8,
+    kind: u64,
+    first: &'a [u8],
+    second: &'a [u8],
+    pages: &mut [u8],
+    lists: &mut [u8],
+) {
     match op {
         b'a' => call::add(pages, lists, kind, first, second),
         b'f' => call::find(pages, lists, kind, first, second),

@@ -68,12 +68,12 @@ pub fn open(
 }
 
 // Gives a name its number: a new one, or the one that it has.
-pub fn add(
+pub fn add<'a>(
     pages: &mut [u8],
     lists: &mut [u8],
     kind: usize,
-    first: &[u8],
-    second: &[u8],
+    first: &'a [u8],
+    second: &'a [u8],
 ) -> AddResult
     ensures { λ r. ⌜ AddPost (now (pages .entry)) (now (lists .entry)) (entered kind (now (first .entry)) (now (second .entry))) (addedBy r) (now (pages .exit)) (now (lists .exit)) ⌝ }
 {
@@ -87,7 +87,13 @@ pub fn add(
 }
 
 // The number that a name has.
-pub fn find(pages: &[u8], lists: &[u8], kind: usize, first: &[u8], second: &[u8]) -> FindResult
+pub fn find<'a>(
+    pages: &[u8],
+    lists: &[u8],
+    kind: usize,
+    first: &'a [u8],
+    second: &'a [u8],
+) -> FindResult
     ensures { λ r. ⌜ FindPost (now (pages .entry)) (now (lists .entry)) (entered kind (now (first .entry)) (now (second .entry))) (foundBy r) (now (pages .entry)) (now (lists .entry)) ⌝ }
 {
     let Header::Opened(s) = layout::check_header(pages, lists) else {

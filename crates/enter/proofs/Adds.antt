@@ -72,12 +72,12 @@ module _ {s : Sizes} {st : State} {pages lists : Bytes} (S : Stands s st pages l
     -- The memory after the writes of the plan.
     entered-key : (x : Plan) → PlanFits s (length key) x → Searched s (row k .mainAt) pages lists key (Free place) → ReadyEntry s st lists k (length key) x
         → (AddAnswer.fresh (x .g * 2 ^ s .w + x .n % 2 ^ s .w) ≡ addAnswer s st a)
-        × Stands s (afterAdd s st a) (pagesAfter s pages (x .spot) key) (written s (listsAfter s lists (row k .mainAt) (x .n) place (x .spot) (x .stamp) (length key)) k (x .n) (x .g))
+        × Stands s (afterAdd s st a) (pagesAfter s pages (x .spot) key) (written s (listsAfter s lists (row k .mainAt) (x .n) place (x .spot) (x .stamp) key) k (x .n) (x .g))
     entered-key x F =
         along
         (λ j y. Searched s (row j .mainAt) pages lists y (Free place) → ReadyEntry s st lists j (length y) x
         → (AddAnswer.fresh (x .g * 2 ^ s .w + x .n % 2 ^ s .w) ≡ addAnswer s st a)
-        × Stands s (afterAdd s st a) (pagesAfter s pages (x .spot) y) (written s (listsAfter s lists (row j .mainAt) (x .n) place (x .spot) (x .stamp) (length y)) j (x .n) (x .g)))
+        × Stands s (afterAdd s st a) (pagesAfter s pages (x .spot) y) (written s (listsAfter s lists (row j .mainAt) (x .n) place (x .spot) (x .stamp) y) j (x .n) (x .g)))
         (λ q R.
         let e = enter-one S
         (record { legal = legal; old = own-old; searched = q; room = omega (arith, R .number, F .number); planned = R .spot; spotted = F .spotted; picked = R .block }) in
@@ -119,11 +119,11 @@ module _ (s : Sizes) (pages lists : Bytes) (k : ℕ) (key : Bytes) (L : Lent s p
 
     added-fresh : (x : Plan) → Plans s lists k (length key) (P.Ready x)
         → Added s (HasKey k key) pages lists (AddAnswer.fresh (x .g * 2 ^ s .w + x .n % 2 ^ s .w)) (pagesAfter s pages (x .spot) key)
-        (written s (listsAfter s lists (row k .mainAt) (x .n) place (x .spot) (x .stamp) (length key)) k (x .n) (x .g))
+        (written s (listsAfter s lists (row k .mainAt) (x .n) place (x .spot) (x .stamp) key) k (x .n) (x .g))
     added-fresh x H =
         let F = H .bounded in
         let B = insert-beyond s pages lists (row k .mainAt) (x .n) place (x .spot) (x .stamp) key (L .ranged) (L .pages-fit) (L .lists-fit) (main-below k) (F .number) (q .range) (F .room) in
-        let fit : listBytes s ≤ length (listsAfter s lists (row k .mainAt) (x .n) place (x .spot) (x .stamp) (length key)) = omega (arith, B .lists-length, L .lists-fit) in
+        let fit : listBytes s ≤ length (listsAfter s lists (row k .mainAt) (x .n) place (x .spot) (x .stamp) key) = omega (arith, B .lists-length, L .lists-fit) in
         record {
           bounded = fresh-in-blocks s (x .g) (x .n) (F .block);
           kept = λ f. absurd (f _ refl);
@@ -134,7 +134,7 @@ module _ (s : Sizes) (pages lists : Bytes) (k : ℕ) (key : Bytes) (L : Lent s p
     -- As the calls leave it: the plan, the two slices after the insert, the blocks after it, and the number.
     pub added-calls : (d len : ℕ) (r : Planned) (x : Plan) (pages′ lists₁ lists′ : Bytes) (y : GlobalId) → len ≡ length key → Plans s lists k len r → r ≡ P.Ready x → d ≡ row k .mainAt
         → pages′ ≡ pagesAfter s pages (x .spot) key
-        → lists₁ ≡ listsAfter s lists d (x .n) place (x .spot) (x .stamp) (length key)
+        → lists₁ ≡ listsAfter s lists d (x .n) place (x .spot) (x .stamp) key
         → lists′ ≡ written s lists₁ k (x .n) (x .g)
         → y ≡ record { 0 = x .g * 2 ^ s .w + x .n % 2 ^ s .w }
         → Added s (HasKey k key) pages lists (addedBy (Fresh y)) pages′ lists′

@@ -16,6 +16,7 @@ use string_dv_dict::Checked;
 ghost use mathlib.Core.Path.{_≡_};
 ghost use Prim.Native.Nat.{_≤_, _<_};
 ghost use lib.ListN.{length};
+ghost use Rattle.fnv.specs.Fnv.{fnvOf};
 ghost use Rattle.layout.specs.Sizes.{InRange, kinds, listBytes};
 ghost use Rattle.bytes_index.specs.Search.{keyOf, Searched};
 ghost use Rattle.bytes_index.specs.declared.Probe.the-variants.{Free};
@@ -147,13 +148,14 @@ fn plan_entry(lists: &[u8], s: Sizes, k: usize, len: usize) -> Planned
     }
 }
 
-// Adds a key that is not among the kind k's names. Its search ended at `place`.
+// Adds a key, whose hash is h, that is not among the kind k's names. Its search ended at `place`.
 fn add_entry(
     pages: &mut [u8],
     lists: &mut [u8],
     s: Sizes,
     k: usize,
     place: usize,
+    h: u32,
     prefix: &[u8],
     mode: Mode,
     tag: &[u8],
@@ -162,6 +164,7 @@ fn add_entry(
     requires { ⌜ Lent s (now pages) (now lists) k ⌝ }
     requires { ⌜ Searched s (row k .mainAt) (now pages) (now lists) (keyOf (now prefix) mode (now tag) (now rest)) (Free place) ⌝ }
     requires { ⌜ length (keyOf (now prefix) mode (now tag) (now rest)) ≤ 8192 ⌝ }
+    requires { ⌜ h ≡ fnvOf (keyOf (now prefix) mode (now tag) (now rest)) ⌝ }
     ensures { λ r. ⌜ Added s (HasKey k (keyOf (now (prefix .entry)) mode (now (tag .entry)) (now (rest .entry)))) (now (pages .entry)) (now (lists .entry)) (addedBy r) (now (pages .exit)) (now (lists .exit)) ⌝ }
 {
     let len = prefix.len() + parts::measure(mode, tag) + rest.len();
@@ -181,6 +184,7 @@ fn add_entry(
                 place,
                 spot,
                 stamp,
+                h,
                 prefix,
                 mode,
                 tag,
@@ -193,12 +197,13 @@ fn add_entry(
     }
 }
 
-// Adds a key to the kind k's names, or finds it there (Nemo's add_str).
+// Adds a key, whose hash is h, to the kind k's names, or finds it there (Nemo's add_str).
 pub fn add_str(
     pages: &mut [u8],
     lists: &mut [u8],
     s: Sizes,
     k: usize,
+    h: u32,
     prefix: &[u8],
     mode: Mode,
     tag: &[u8],
@@ -206,12 +211,13 @@ pub fn add_str(
 ) -> AddResult
     requires { ⌜ Lent s (now pages) (now lists) k ⌝ }
     requires { ⌜ length (keyOf (now prefix) mode (now tag) (now rest)) ≤ 8192 ⌝ }
+    requires { ⌜ h ≡ fnvOf (keyOf (now prefix) mode (now tag) (now rest)) ⌝ }
     ensures { λ r. ⌜ Added s (HasKey k (keyOf (now (prefix .entry)) mode (now (tag .entry)) (now (rest .entry)))) (now (pages .entry)) (now (lists .entry)) (addedBy r) (now (pages .exit)) (now (lists .exit)) ⌝ }
 {
     let d = names::main_dictionary(k);
-    match bytes_index::bytes_to_id(pages, lists, s, d, prefix, mode, tag, rest) {
+    match bytes_index::bytes_to_id(pages, lists, s, d, h, prefix, mode, tag, rest) {
         Probe::At(i) => known(lists, s, k, EntryId(i)),
-        Probe::Free(place) => add_entry(pages, lists, s, k, place, prefix, mode, tag, rest),
+        Probe::Free(place) => add_entry(pages, lists, s, k, place, h, prefix, mode, tag, rest),
         Probe::Bad => AddResult::Refused(Refusal::Unopened),
     }
 }

@@ -91,13 +91,13 @@ module _ {s : Sizes} {st : State} {pages lists : Bytes} (S : Stands s st pages l
       → ReadyPair s st lists (a .kind) (length (headOf a)) (length (fid h ++ row (a .kind) .rest a)) x
       → (AddAnswer.fresh (x .g * 2 ^ s .w + x .n % 2 ^ s .w) ≡ addAnswer s st a)
       × Stands s (afterAdd s st a) (pairPages s pages x (headOf a) (fid h ++ row (a .kind) .rest a))
-      (pairLists s lists (a .kind) h hplace place x (length (headOf a)) (length (fid h ++ row (a .kind) .rest a)))
+      (pairLists s lists (a .kind) h hplace place x (headOf a) (fid h ++ row (a .kind) .rest a))
   unfolding pairPages pairLists
   own-entered place x F =
       subst
       (λ (key : Bytes). Searched s (row (a .kind) .mainAt) pages lists key (Free place) → ReadyPair s st lists (a .kind) (length (headOf a)) (length key) x
       → (AddAnswer.fresh (x .g * 2 ^ s .w + x .n % 2 ^ s .w) ≡ addAnswer s st a)
-      × Stands s (afterAdd s st a) (pairPages s pages x (headOf a) key) (pairLists s lists (a .kind) h hplace place x (length (headOf a)) (length key)))
+      × Stands s (afterAdd s st a) (pairPages s pages x (headOf a) key) (pairLists s lists (a .kind) h hplace place x (headOf a) key))
       own-key
       (λ q R.
       let e = enter-both S
@@ -204,13 +204,13 @@ module _ (s : Sizes) (pages lists : Bytes) (k : ℕ) (head rest : Bytes) (L : Le
       pub both-fresh : (place : ℕ) (x : PairPlan) → PlansPair s lists k h (length head) (length (fid h ++ rest)) (P.Ready x)
           → Searched s (row k .mainAt) pages lists (fid h ++ rest) (Free place)
           → Added s (HasPair k head rest) pages lists (AddAnswer.fresh (x .g * 2 ^ s .w + x .n % 2 ^ s .w)) (pairPages s pages x head (fid h ++ rest))
-          (pairLists s lists k h hplace place x (length head) (length (fid h ++ rest)))
+          (pairLists s lists k h hplace place x head (fid h ++ rest))
       unfolding pairPages pairLists
       both-fresh place x H q =
           let F = H .bounded in
           let pages₁ : Bytes = pagesAfter s pages (x .head) head in
-          let lists₁ : Bytes = listsAfter s lists (row k .headsAt) h hplace (x .head) (x .stamp) (length head) in
-          let lists₂ : Bytes = listsAfter s lists₁ (row k .mainAt) (x .n) place (x .pair) (x .stamp) (length (fid h ++ rest)) in
+          let lists₁ : Bytes = listsAfter s lists (row k .headsAt) h hplace (x .head) (x .stamp) head in
+          let lists₂ : Bytes = listsAfter s lists₁ (row k .mainAt) (x .n) place (x .pair) (x .stamp) (fid h ++ rest) in
           let A = insert-beyond s pages lists (row k .headsAt) h hplace (x .head) (x .stamp) head (L .ranged) (L .pages-fit) (L .lists-fit) (head-below k) (F .heads) (hsearched .range)
           (F .head-room) in
           let pages-fit : pageBytes s ≤ length pages₁ = omega (arith, A .pages-length, L .pages-fit) in
@@ -229,7 +229,7 @@ module _ (s : Sizes) (pages lists : Bytes) (k : ℕ) (head rest : Bytes) (L : Le
                 → Searched s (row j .mainAt) pages lists (fid h ++ z) (Free place)
                 → ReadyPair s st lists j (length y) (length (fid h ++ z)) x
                 → (AddAnswer.fresh (x .g * 2 ^ s .w + x .n % 2 ^ s .w) ≡ addAnswer s st a)
-                × Stands s (afterAdd s st a) (pairPages s pages x y (fid h ++ z)) (pairLists s lists j h hplace place x (length y) (length (fid h ++ z))))
+                × Stands s (afterAdd s st a) (pairPages s pages x y (fid h ++ z)) (pairLists s lists j h hplace place x y (fid h ++ z)))
                 (λ p u e. own-entered S a legal p hplace h u e place x F)
                 pair
                 hsearched
@@ -244,6 +244,6 @@ module _ (s : Sizes) (pages lists : Bytes) (k : ℕ) (head rest : Bytes) (L : Le
           → key ≡ fid h ++ rest
           → r ≡ AddAnswer.fresh (x .g * 2 ^ s .w + x .n % 2 ^ s .w)
           → pages′ ≡ pairPages s pages x head key
-          → lists′ ≡ pairLists s lists k h hplace place x (length head) (length key)
+          → lists′ ≡ pairLists s lists k h hplace place x head key
           → Added s (HasPair k head rest) pages lists r pages′ lists′
       both-calls place x r pages′ lists′ key H q e a p l = rw (a, p, l, e) (both-fresh place x H q)

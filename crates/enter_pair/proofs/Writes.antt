@@ -2,7 +2,6 @@
 use Prim.Native.Nat.{ℕ}
 use mathlib.Core.Path.{_≡_, ap, _∙_}
 use mathlib.Core.List.{[], _++_}
-use lib.ListN.{length}
 use Rattle.slices.specs.Bytes.{Bytes}
 use Rattle.parts.specs.declared.Mode.the-variants.{Raw}
 use Rattle.layout.specs.declared.Sizes.{Sizes}
@@ -23,12 +22,12 @@ both-pages s pages x head lead rest pages₁ pages₂ p q =
     ∙ ap (λ (y : Bytes). pagesAfter s y (x .pair) (lead ++ rest)) (p ∙ ap (pagesAfter s pages (x .head)) (raw-key [] head))
 
 pub both-lists : (s : Sizes) (lists : Bytes) (k h headPlace place : ℕ) (x : PairPlan) (head lead rest lists₁ lists₂ lists₃ : Bytes) (heads d : ℕ) → heads ≡ row k .headsAt → d ≡ row k .mainAt
-    → lists₁ ≡ listsAfter s lists heads h headPlace (x .head) (x .stamp) (length (keyOf [] Raw [] head))
-    → lists₂ ≡ listsAfter s lists₁ d (x .n) place (x .pair) (x .stamp) (length (keyOf lead Raw [] rest))
+    → lists₁ ≡ listsAfter s lists heads h headPlace (x .head) (x .stamp) (keyOf [] Raw [] head)
+    → lists₂ ≡ listsAfter s lists₁ d (x .n) place (x .pair) (x .stamp) (keyOf lead Raw [] rest)
     → lists₃ ≡ written s lists₂ k (x .n) (x .g)
-    → lists₃ ≡ pairLists s lists k h headPlace place x (length head) (length (lead ++ rest))
+    → lists₃ ≡ pairLists s lists k h headPlace place x head (lead ++ rest)
 unfolding pairLists
 both-lists s lists k h headPlace place x head lead rest lists₁ lists₂ lists₃ heads d e f p q r =
-    let p′ : lists₁ ≡ listsAfter s lists (row k .headsAt) h headPlace (x .head) (x .stamp) (length head) = rw (raw-key [] head, e) at p in
-    let q′ : lists₂ ≡ listsAfter s lists₁ (row k .mainAt) (x .n) place (x .pair) (x .stamp) (length (lead ++ rest)) = rw (raw-key lead rest, f) at q in
+    let p′ : lists₁ ≡ listsAfter s lists (row k .headsAt) h headPlace (x .head) (x .stamp) head = rw (raw-key [] head, e) at p in
+    let q′ : lists₂ ≡ listsAfter s lists₁ (row k .mainAt) (x .n) place (x .pair) (x .stamp) (lead ++ rest) = rw (raw-key lead rest, f) at q in
     r ∙ rw (q′, p′)

@@ -78,10 +78,10 @@ pub record PlansPair (s : Sizes) (lists : Bytes) (k h size len : ℕ) (r : PairP
 unfoldable pub pairPages : Sizes → Bytes → PairPlan → Bytes → Bytes → Bytes
 pairPages s pages x head key = pagesAfter s (pagesAfter s pages (x .head) head) (x .pair) key
 
-unfoldable pub pairLists : Sizes → Bytes → ℕ → ℕ → ℕ → ℕ → PairPlan → ℕ → ℕ → Bytes
-pairLists s lists k h headPlace place x size len =
+unfoldable pub pairLists : Sizes → Bytes → ℕ → ℕ → ℕ → ℕ → PairPlan → Bytes → Bytes → Bytes
+pairLists s lists k h headPlace place x head key =
     written s
-    (listsAfter s (listsAfter s lists (row k .headsAt) h headPlace (x .head) (x .stamp) size) (row k .mainAt) (x .n) place (x .pair) (x .stamp) len)
+    (listsAfter s (listsAfter s lists (row k .headsAt) h headPlace (x .head) (x .stamp) head) (row k .mainAt) (x .n) place (x .pair) (x .stamp) key)
     k
     (x .n)
     (x .g)

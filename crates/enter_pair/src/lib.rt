@@ -7,21 +7,19 @@ use enter::AddResult;
 use enter::Reserved;
 use layout::Sizes;
 use meta_dv_dict::LocalId;
-use names::IRI;
 use names::PLAIN;
 use names::TAGGED;
-use names::TYPED;
 use parts::Mode;
-use ranked_pair_iri_dv_dict::Head;
 use refusals::Refusal;
 use refusals::Written;
 use string_dv_dict::Checked;
 ghost use mathlib.Core.Path.{_≡_};
 ghost use mathlib.Core.Bool.{true};
-ghost use mathlib.Core.List.{[], _++_};
+ghost use mathlib.Core.List.{_++_};
 ghost use mathlib.Core.Option.{none};
 ghost use Prim.Native.Nat.{_+_, _*_, _%_, _^_, _≤_, _<_};
 ghost use lib.ListN.{length};
+ghost use Rattle.fnv.specs.Fnv.{fnvOf};
 ghost use Rattle.limits.specs.Limits.{nameLimit};
 ghost use Rattle.layout.specs.Sizes.{InRange, kinds, listBytes};
 ghost use Rattle.bytes_index.specs.Search.{Searched};
@@ -48,17 +46,17 @@ enum PairPlanned {
     Refused(Refusal),
 }
 
-// Decides where head number h, of `size` bytes, and its pair, of len bytes, go: refusals 8, 9, 10 of both together.
-fn plan_pair(lists: &[u8], s: Sizes, k: usize, h: usize, size: usize, len: usize) -> PairPlanned
+// Decides where head number f, of `size` bytes, and its pair, of len bytes, go: refusals 8, 9, 10 of both together.
+fn plan_pair(lists: &[u8], s: Sizes, k: usize, f: usize, size: usize, len: usize) -> PairPlanned
     requires { ⌜ InRange s × (listBytes s ≤ length (now lists)) × (k < kinds) × (row k .paired ≡ true) ⌝ }
     requires { ⌜ (size ≤ 8192) × (len ≤ 8192) ⌝ }
-    ensures { λ r. ⌜ PlansPair s (now (lists .entry)) k h size len r ⌝ }
+    ensures { λ r. ⌜ PlansPair s (now (lists .entry)) k f size len r ⌝ }
 {
     let d = names::main_dictionary(k);
     let Counted::Entries(n) = bytes_dictionary::count(lists, s, d) else {
         return PairPlanned::Refused(Refusal::Unopened);
     };
-    if s.e <= n || s.e <= h {
+    if s.e <= n || s.e <= f {
         return PairPlanned::Refused(Refusal::ListFull);
     }
     let Lowest::Page(untaken) = bytes_buffer::untaken(lists, s) else {
@@ -84,25 +82,28 @@ fn plan_pair(lists: &[u8], s: Sizes, k: usize, h: usize, size: usize, len: usize
     }
 }
 
-// Writes head number h and its pair as they were planned, and gives the pair's number.
+// Writes head number f and its pair, whose hashes are headhash and h, as they were planned, and gives the pair's number.
 fn commit_pair(
     pages: &mut [u8],
     lists: &mut [u8],
     s: Sizes,
     k: usize,
-    h: usize,
+    f: usize,
     headplace: usize,
     place: usize,
     x: PairPlan,
+    headhash: u32,
+    h: u32,
     head: &[u8],
     lead: &[u8],
     rest: &[u8],
 ) -> AddResult
     requires { ⌜ Lent s (now pages) (now lists) k × (row k .paired ≡ true) × (headplace < 2 * s .e) × (place < 2 * s .e) ⌝ }
-    requires { ⌜ PairPlanFits s h (length (now head)) (length (now lead ++ now rest)) x ⌝ }
+    requires { ⌜ PairPlanFits s f (length (now head)) (length (now lead ++ now rest)) x ⌝ }
+    requires { ⌜ (headhash ≡ fnvOf (now head)) × (h ≡ fnvOf (now lead ++ now rest)) ⌝ }
     ensures answer { λ r. ⌜ addedBy r ≡ AddAnswer.fresh (x .g * 2 ^ s .w + x .n % 2 ^ s .w) ⌝ }
     ensures pages { λ _. ⌜ now (pages .exit) ≡ pairPages s (now (pages .entry)) x (now (head .entry)) (now (lead .entry) ++ now (rest .entry)) ⌝ }
-    ensures lists { λ _. ⌜ now (lists .exit) ≡ pairLists s (now (lists .entry)) k h headplace place x (length (now (head .entry))) (length (now (lead .entry) ++ now (rest .entry))) ⌝ }
+    ensures lists { λ _. ⌜ now (lists .exit) ≡ pairLists s (now (lists .entry)) k f headplace place x (now (head .entry)) (now (lead .entry) ++ now (rest .entry)) ⌝ }
 {
     let n = x.n;
     let g = x.g;
@@ -117,10 +118,11 @@ fn commit_pair(
         lists,
         s,
         heads,
-        h,
+        f,
         headplace,
         head_spot,
         stamp,
+        headhash,
         none,
         Mode::Raw,
         none,
@@ -135,6 +137,7 @@ fn commit_pair(
         place,
         spot,
         stamp,
+        h,
         lead,
         Mode::Raw,
         none,
@@ -158,19 +161,21 @@ fn add_both(
     requires { ⌜ Searched s (row k .headsAt) (now pages) (now lists) (now head) (Free headplace) ⌝ }
     ensures { λ r. ⌜ Added s (HasPair k (now (head .entry)) (now (rest .entry))) (now (pages .entry)) (now (lists .entry)) (addedBy r) (now (pages .exit)) (now (lists .exit)) ⌝ }
 {
-    let Counted::Entries(h) = bytes_dictionary::count(lists, s, names::head_dictionary(k)) else {
+    let Counted::Entries(f) = bytes_dictionary::count(lists, s, names::head_dictionary(k)) else {
         return AddResult::Refused(Refusal::Unopened);
     };
     let mut lead = [0u8; 4];
-    let Written::Length(m) = ranked_pair_dictionary::write_frequent_id(h, &mut lead) else {
+    let Written::Length(m) = ranked_pair_dictionary::write_frequent_id(f, &mut lead) else {
         return AddResult::Refused(Refusal::Unopened);
     };
+    let h = fnv::fnv_from(fnv::fnv(&lead[..m]), rest);
     let d = names::main_dictionary(k);
     let found = bytes_index::bytes_to_id(
         pages,
         lists,
         s,
         d,
+        h,
         &lead[..m],
         Mode::Raw,
         &rest[..0],
@@ -179,16 +184,18 @@ fn add_both(
     let Probe::Free(place) = found else {
         return AddResult::Refused(Refusal::Unopened);
     };
-    match plan_pair(lists, s, k, h, head.len(), m + rest.len()) {
+    match plan_pair(lists, s, k, f, head.len(), m + rest.len()) {
         PairPlanned::Ready(x) => commit_pair(
             pages,
             lists,
             s,
             k,
-            h,
+            f,
             headplace,
             place,
             x,
+            fnv::fnv(head),
+            h,
             head,
             &lead[..m],
             rest,
@@ -215,21 +222,22 @@ fn add_pair(
             let Written::Length(m) = ranked_pair_dictionary::write_frequent_id(f, &mut lead) else {
                 return AddResult::Refused(Refusal::Unopened);
             };
-            enter::add_str(pages, lists, s, k, &lead[..m], Mode::Raw, &rest[..0], rest)
+            let h = fnv::fnv_from(fnv::fnv(&lead[..m]), rest);
+            enter::add_str(
+                pages,
+                lists,
+                s,
+                k,
+                h,
+                &lead[..m],
+                Mode::Raw,
+                &rest[..0],
+                rest,
+            )
         }
         Probe::Free(headplace) => add_both(pages, lists, s, k, headplace, head, rest),
         Probe::Bad => AddResult::Refused(Refusal::Unopened),
     }
-}
-
-fn add_iri(pages: &mut [u8], lists: &mut [u8], s: Sizes, iri: &[u8]) -> AddResult
-    requires { ⌜ Lent s (now pages) (now lists) 0 × (length (now iri) ≤ nameLimit) ⌝ }
-    ensures { λ r. ⌜ Added s (λ st a. a ≡ entered 0 (now (iri .entry)) []) (now (pages .entry)) (now (lists .entry)) (addedBy r) (now (pages .exit)) (now (lists .exit)) ⌝ }
-{
-    let Head::Length(n) = ranked_pair_iri_dv_dict::rfind_hashslash_plus(iri) else {
-        return add_pair(pages, lists, s, IRI, &iri[..0], iri);
-    };
-    add_pair(pages, lists, s, IRI, &iri[..n], &iri[n..])
 }
 
 fn add_tagged(pages: &mut [u8], lists: &mut [u8], s: Sizes, text: &[u8], tag: &[u8]) -> AddResult
@@ -237,38 +245,42 @@ fn add_tagged(pages: &mut [u8], lists: &mut [u8], s: Sizes, text: &[u8], tag: &[
     ensures { λ r. ⌜ Added s (λ st a. a ≡ entered 2 (now (text .entry)) (now (tag .entry))) (now (pages .entry)) (now (lists .entry)) (addedBy r) (now (pages .exit)) (now (lists .exit)) ⌝ }
 {
     let front = [names::tag_front(tag)];
-    enter::add_str(
-        pages,
-        lists,
-        s,
-        TAGGED,
-        &front,
-        names::tag_mode(tag),
-        tag,
-        text,
-    )
+    let mode = names::tag_mode(tag);
+    let h = bytes_index::hash(&front, mode, tag, text);
+    enter::add_str(pages, lists, s, TAGGED, h, &front, mode, tag, text)
 }
 
-// Adds a legal name, or finds it there.
-pub fn add_name(
+// Adds a legal name, or finds it there. Both parts have one lifetime, since the rest may lie in either.
+pub fn add_name<'a>(
     pages: &mut [u8],
     lists: &mut [u8],
     s: Sizes,
     kind: usize,
-    first: &[u8],
-    second: &[u8],
+    first: &'a [u8],
+    second: &'a [u8],
 ) -> AddResult
     requires { ⌜ Lent s (now pages) (now lists) kind × (checks s (entered kind (now first) (now second)) ≡ none) ⌝ }
     ensures { λ r. ⌜ Added s (λ st a. a ≡ entered kind (now (first .entry)) (now (second .entry))) (now (pages .entry)) (now (lists .entry)) (addedBy r) (now (pages .exit)) (now (lists .exit)) ⌝ }
 {
-    if kind == IRI {
-        return add_iri(pages, lists, s, first);
-    }
     if kind == PLAIN {
-        return enter::add_str(pages, lists, s, PLAIN, second, Mode::Raw, second, first);
+        let none = &first[..0];
+        return enter::add_str(
+            pages,
+            lists,
+            s,
+            PLAIN,
+            fnv::fnv(first),
+            none,
+            Mode::Raw,
+            none,
+            first,
+        );
     }
     if kind == TAGGED {
         return add_tagged(pages, lists, s, first, second);
     }
-    add_pair(pages, lists, s, TYPED, first, second)
+    // An IRI and a typed value differ in where head and rest lie.
+    let n = names::head_length(kind, first);
+    let rest = names::rest_behind(kind, first, second, n);
+    add_pair(pages, lists, s, kind, &first[..n], rest)
 }

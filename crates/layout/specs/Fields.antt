@@ -4,7 +4,7 @@
 --   6                  the lowest untaken page
 --   16 + 4d            dictionary d: its entries; 17 + 4d its current page + 1; 18 + 4d its pages
 --   64 + i             page i: its dictionary + 1, used bytes, position among its dictionary's pages
---   then, for each dictionary, e entry words (page, offset, length), e order words, and 2e index places of four bytes (entry + 1)
+--   then, for each dictionary, e entry words (page, offset, length), e order words, and 2e index places of four bytes (entry + 1, top bits of its hash)
 --   then, for each kind, b words: the global block + 1 of each local block
 --   then b words: the kind and local block of each global block
 -- Every other word is initialised to zero and never written.
@@ -12,9 +12,9 @@ use Prim.Native.Nat.{ℕ, _+_, _-_, _*_, _/_, _%_}
 use Rattle.layout.specs.declared.Sizes.{Sizes}
 use Rattle.layout.specs.Sizes.{kinds, dictionaries}
 
--- "namedic1", low byte first. It changes whenever the meaning of the memory does.
+-- "namedic2", low byte first. It changes whenever the meaning of the memory does.
 abbrev pub format : ℕ
-format = 0x31636964656D616E
+format = 0x32636964656D616E
 
 abbrev pub untakenAt : ℕ
 untakenAt = 6
@@ -82,6 +82,16 @@ offsetOf w = w / 1024 % 2097152
 
 abbrev pub sizeOf : ℕ → ℕ
 sizeOf w = w / 2147483648
+
+-- An index place: 0 empty, else its entry + 1 (21 bits); the top 11 bits of the hash of the entry's key.
+abbrev pub placeWord : ℕ → ℕ → ℕ
+placeWord i h = i + 1 + 2097152 * (h / 2097152)
+
+abbrev pub namedBy : ℕ → ℕ
+namedBy q = q % 2097152
+
+abbrev pub topOf : ℕ → ℕ
+topOf q = q / 2097152
 
 -- A global block: 0 free, else 1 + kind + 16 × local block.
 abbrev pub blockWord : ℕ → ℕ → ℕ

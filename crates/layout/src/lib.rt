@@ -8,8 +8,8 @@ ghost use Rattle.layout.specs.Fields.{dictAt, blocksAt};
 ghost use Rattle.layout.specs.Header.{headerOf};
 ghost use Rattle.layout.specs.Opened.{openedLists};
 
-// "namedic1", low byte first: the first word of every dictionary's `lists`.
-const FORMAT: usize = 0x31636964656D616E;
+// "namedic2", low byte first: the first word of every dictionary's `lists`.
+const FORMAT: usize = 0x32636964656D616E;
 
 // How many kinds of names and how many dictionaries there are.
 pub const KINDS: usize = 4;
@@ -35,6 +35,7 @@ const BLOCK_WORDS: usize = KINDS + 1;
 
 // Several numbers in one word. A page: its owner below OWNERS, then its used bytes below OFFSETS, then its position from POSITION up.
 // An entry: its page below PAGE_NUMBERS, then its offset below OFFSETS, then its length from LENGTH up. A block: 1, its kind below OWNERS, then its local block.
+// An index place: its entry + 1 below ENTRY_NUMBERS, then the top bits of the hash.
 pub const OWNERS: usize = 16;
 
 pub const OFFSETS: usize = 2097152;
@@ -44,6 +45,8 @@ pub const POSITION: usize = 33554432;
 pub const PAGE_NUMBERS: usize = 1024;
 
 pub const LENGTH: usize = 2147483648;
+
+pub const ENTRY_NUMBERS: usize = 2097152;
 
 // Document 01's letters: page width p, pages N, list length E, block width w, blocks B.
 pub struct Sizes {

@@ -1,14 +1,12 @@
 -- From a number to its block's owner, to the entry, to the name. Assumes nothing.
-use Prim.Native.Nat.{ℕ, zero, suc, _+_, _*_, _/_, _%_, _^_, _≤_, _<_}
+use Prim.Native.Nat.{ℕ, _+_, _*_, _/_, _%_, _^_, _≤_, _<_}
 use mathlib.Core.Path.{_≡_, refl}
-use mathlib.Core.Bool.{true}
-use mathlib.Core.Logic.{_≢_}
 use mathlib.Core.Option.{Option, none, some}
 use native.Mathlib.Omega.{arith}
 use lib.ListN.{length}
 use Rattle.slices.specs.Bytes.{Bytes}
 use Rattle.layout.specs.declared.Sizes.{Sizes}
-use Rattle.layout.specs.Sizes.{kinds, pageBytes}
+use Rattle.layout.specs.Sizes.{pageBytes}
 use Rattle.bytes_dictionary.specs.declared.Lookup.{Lookup}
 use Rattle.bytes_dictionary.specs.declared.Lookup.the-variants as K
 use Rattle.bytes_dictionary.specs.Reading.{Gives, Looked}
@@ -25,14 +23,6 @@ use Rattle.memory.proofs.Named.{named-entry, unnamed-entry, named-legal}
 use Rattle.locate.specs.declared.Located.{Located}
 use Rattle.locate.specs.declared.Located.the-variants.{Nothing, Bad}
 use Rattle.locate.specs.Located.{Tells, LocatesEntry, LocatesName}
-
--- The kinds that are no strings have heads.
-pub paired : (k : ℕ) → k < kinds → k ≢ 1 → k ≢ 2 → row k .paired ≡ true
-paired zero h p q = refl
-paired (suc zero) h p q = absurd (p refl)
-paired (suc (suc zero)) h p q = absurd (q refl)
-paired (suc (suc (suc zero))) h p q = refl
-paired (suc (suc (suc (suc k)))) h p q = absurd (omega arith)
 
 -- ---- what a block's owner says of a number's name
 

@@ -38,16 +38,16 @@ beyond-trans s pages lists pages₁ lists₁ pages₂ lists₂ A B =
 
 pub insert-beyond : (s : Sizes) (pages lists : Bytes) (d n place : ℕ) (spot : Spot) (stamp : ℕ) (key : Bytes)
     → InRange s → pageBytes s ≤ length pages → listBytes s ≤ length lists → d < dictionaries → n < s .e → place < 2 * s .e → HasRoom s (length key) spot
-    → SameBeyond s pages lists (pagesAfter s pages spot key) (listsAfter s lists d n place spot stamp (length key))
+    → SameBeyond s pages lists (pagesAfter s pages spot key) (listsAfter s lists d n place spot stamp key)
 insert-beyond s pages lists d n place spot stamp key r f g dl nl pl h =
     let a = length-pages s pages spot key in
-    let b = length-lists s lists d n place spot stamp (length key) in
+    let b = length-lists s lists d n place spot stamp key in
     record {
       pages-length = a;
       lists-length = b;
       pages-beyond = drop-same (pageBytes s) _ _ a (pages-beside s pages key spot h);
       lists-beyond = drop-same (listBytes s) _ _ b
-          (λ i l. bytes-beside s lists d n place stamp (length key) r g dl nl pl spot h i (omega (arith, list-bytes s, dict-end s)));
+          (λ i l. bytes-beside s lists d n place stamp key r g dl nl pl spot h i (omega (arith, list-bytes s, dict-end s)));
     }
 
 pub block-beyond : (s : Sizes) (pages lists : Bytes) (k n g : ℕ) → InRange s → listBytes s ≤ length lists → k < kinds → n / 2 ^ s .w < s .b → g < s .b

@@ -108,7 +108,7 @@ module _ (s : Sizes) (store : Store) (pages lists : Bytes) (d place : ℕ) (spot
     (later : (i : ℕ) → i + 1 ≡ store .count d → store .stamp d i < t) (pl : place < 2 * s .e) (M : Misses s (λ j. quadAt lists (placeAt s d j)) (store .entries d) key place)
     (planned : spotIn s (wordAt lists) d (wordAt lists untakenAt) (length key) ≡ spot) (spotted : IsSpot spot) where
   commit-entry : (b : Blocks) → BlocksAt s b lists
-      → let lists₁ = listsAfter s lists d (store .count d) place spot t (length key) in
+      → let lists₁ = listsAfter s lists d (store .count d) place spot t key in
       StoreAt s (inserted s store d key t) (pagesAfter s pages spot key) lists₁ × BlocksAt s b lists₁
   commit-entry b T =
       let r : InRange s = ranged s (S .header .ranged) in
@@ -116,14 +116,14 @@ module _ (s : Sizes) (store : Store) (pages lists : Bytes) (d place : ℕ) (spot
         store-more s store pages lists d place t key (record { ranged = r; pages-fit = S .header .pages-fit; lists-fit = f; known = dl }) S room short stamp-fits later pl M spot planned spotted,
         kept-blocks s b lists _
             (λ i h.
-            words-beside s lists d (store .count d) place t (length key) r f dl room pl spot (planned-room s (wordAt lists) d (wordAt lists untakenAt) (length key) spot short planned) i
+            words-beside s lists d (store .count d) place t key r f dl room pl spot (planned-room s (wordAt lists) d (wordAt lists untakenAt) (length key) spot short planned) i
             (inr (inr (omega (arith, h .0, dict-end s, blocks-from s 0)))))
             T,
       )
 
 module _ (s : Sizes) (store : Store) (b : Blocks) (pages lists : Bytes) (S : StoreAt s store pages lists) (T : BlocksAt s b lists) where
   insert-commit : (d place : ℕ) (spot : Spot) (t : ℕ) (key : Bytes) → Ready s store pages lists d place spot t key
-      → let lists₁ = listsAfter s lists d (store .count d) place spot t (length key) in
+      → let lists₁ = listsAfter s lists d (store .count d) place spot t key in
       StoreAt s (inserted s store d key t) (pagesAfter s pages spot key) lists₁ × BlocksAt s b lists₁
   insert-commit d place spot t key R =
       commit-entry s store pages lists d place spot t key S (R .known) (R .room) (R .short) (R .stamp-fits) (R .later) (R .searched .range)
@@ -135,17 +135,17 @@ module _ (s : Sizes) (store : Store) (b : Blocks) (pages lists : Bytes) (S : Sto
 
   pub commit-one : (d place : ℕ) (spot : Spot) (t : ℕ) (key : Bytes) (k g : ℕ) → Ready s store pages lists d place spot t key → k < kinds → pick s b k ≡ some g
       → let pages′ = pagesAfter s pages spot key in
-      let lists′ = written s (listsAfter s lists d (store .count d) place spot t (length key)) k (b .next k) g in
+      let lists′ = written s (listsAfter s lists d (store .count d) place spot t key) k (b .next k) g in
       StoreAt s (inserted s store d key t) pages′ lists′ × BlocksAt s (took (s .w) b k g) lists′
   commit-one d place spot t key k g R h e =
       let A = insert-commit d place spot t key R in
-      commit-block s (inserted s store d key t) b (pagesAfter s pages spot key) (listsAfter s lists d (store .count d) place spot t (length key)) k g (A .0) (A .1) h e
+      commit-block s (inserted s store d key t) b (pagesAfter s pages spot key) (listsAfter s lists d (store .count d) place spot t key) k g (A .0) (A .1) h e
 
   -- ---- a head, and then the main entry, whose search and plan were made before the head was written
 
   module _ (dh hplace : ℕ) (hspot : Spot) (t : ℕ) (head : Bytes) (R : Ready s store pages lists dh hplace hspot t head) where
     after-head : Bytes
-    after-head = listsAfter s lists dh (store .count dh) hplace hspot t (length head)
+    after-head = listsAfter s lists dh (store .count dh) hplace hspot t head
 
     -- The plan for the main entry took the head's page into account.
     untaken-after : wordAt after-head untakenAt ≡ untakenAfter (wordAt lists untakenAt) hspot
@@ -174,7 +174,7 @@ module _ (s : Sizes) (store : Store) (b : Blocks) (pages lists : Bytes) (S : Sto
           (insert-commit dh hplace hspot t head R .0 .paged)
           dl
           (space-other s store dh head t d other)
-          (words-beside s lists dh (store .count dh) hplace t (length head) (ranged s (S .header .ranged)) (S .header .lists-fit) (R .known) (R .room) (R .searched .range) hspot
+          (words-beside s lists dh (store .count dh) hplace t head (ranged s (S .header .ranged)) (S .header .lists-fit) (R .known) (R .room) (R .searched .range) hspot
           (insert-room s store pages lists dh hplace hspot t head R)
           (currentAt d)
           (inr (inl (d, dl, other, refl))))
@@ -186,7 +186,7 @@ module _ (s : Sizes) (store : Store) (b : Blocks) (pages lists : Bytes) (S : Sto
           subst (λ (es : Entries). Misses s (λ j. quadAt after-head (placeAt s d j)) es key place) (sym (entries-other s store dh head t d other))
           (misses-kept s (λ j. quadAt lists (placeAt s d j)) (λ j. quadAt after-head (placeAt s d j)) (store .entries d) key place
           (λ j l.
-          places-beside s lists dh (store .count dh) hplace t (length head) (ranged s (S .header .ranged)) (S .header .lists-fit) (R .known) (R .room) (R .searched .range) hspot
+          places-beside s lists dh (store .count dh) hplace t head (ranged s (S .header .ranged)) (S .header .lists-fit) (R .known) (R .room) (R .searched .range) hspot
           (insert-room s store pages lists dh hplace hspot t head R)
           d
           j
@@ -201,9 +201,9 @@ module _ (s : Sizes) (store : Store) (b : Blocks) (pages lists : Bytes) (S : Sto
       → ((i : ℕ) → i + 1 ≡ store .count d → store .stamp d i < t)
       → k < kinds → pick s b k ≡ some g
       → let pages₁ = pagesAfter s pages hspot head in
-      let lists₁ = listsAfter s lists dh (store .count dh) hplace hspot t (length head) in
+      let lists₁ = listsAfter s lists dh (store .count dh) hplace hspot t head in
       let pages′ = pagesAfter s pages₁ spot key in
-      let lists′ = written s (listsAfter s lists₁ d (store .count d) place spot t (length key)) k (b .next k) g in
+      let lists′ = written s (listsAfter s lists₁ d (store .count d) place spot t key) k (b .next k) g in
       StoreAt s (inserted s (inserted s store dh head t) d key t) pages′ lists′ × BlocksAt s (took (s .w) b k g) lists′
   unfolding after-head
   commit-both dh hplace hspot head d place spot key t k g q R dl F room short planned spotted later h e =
@@ -212,7 +212,7 @@ module _ (s : Sizes) (store : Store) (b : Blocks) (pages lists : Bytes) (S : Sto
       let c = count-other s store dh head t d o in
       let st₁ : Store = inserted s store dh head t in
       let pages₁ : Bytes = pagesAfter s pages hspot head in
-      let lists₁ : Bytes = listsAfter s lists dh (store .count dh) hplace hspot t (length head) in
+      let lists₁ : Bytes = listsAfter s lists dh (store .count dh) hplace hspot t head in
       let B = commit-entry s st₁ pages₁ lists₁ d place spot t key (A .0) dl (subst (λ (x : ℕ). x < s .e) (sym c) room) short (R .stamp-fits)
       (λ i u. subst (λ (f : ℕ → ℕ). f i < t) (sym (stamp-other s store dh head t d o)) (later i (u ∙ c)))
       (F .range)
@@ -222,6 +222,6 @@ module _ (s : Sizes) (store : Store) (b : Blocks) (pages lists : Bytes) (S : Sto
       b
       (A .1) in
       let C = subst
-      (λ (n : ℕ). StoreAt s (inserted s st₁ d key t) (pagesAfter s pages₁ spot key) (listsAfter s lists₁ d n place spot t (length key))
-      × BlocksAt s b (listsAfter s lists₁ d n place spot t (length key))) c B in
-      commit-block s (inserted s st₁ d key t) b (pagesAfter s pages₁ spot key) (listsAfter s lists₁ d (store .count d) place spot t (length key)) k g (C .0) (C .1) h e
+      (λ (n : ℕ). StoreAt s (inserted s st₁ d key t) (pagesAfter s pages₁ spot key) (listsAfter s lists₁ d n place spot t key)
+      × BlocksAt s b (listsAfter s lists₁ d n place spot t key)) c B in
+      commit-block s (inserted s st₁ d key t) b (pagesAfter s pages₁ spot key) (listsAfter s lists₁ d (store .count d) place spot t key) k g (C .0) (C .1) h e

@@ -313,18 +313,18 @@ module _ {s : Sizes} {st : State} {pages lists : Bytes} (S : Stands s st pages l
   pub enter-one : {a : Name} {place : ℕ} {spot : Spot} {g : ℕ} → One s st pages lists a place spot g
       → (decide s st a ≡ enter g)
       × Stands s (extended s st a g) (pagesAfter s pages spot (keyIn st a))
-      (written s (listsAfter s lists (mainOf a) (length (partOf st a .names)) place spot (stampOf (st .blocks)) (length (keyIn st a))) (a .kind) (length (partOf st a .names)) g)
+      (written s (listsAfter s lists (mainOf a) (length (partOf st a .names)) place spot (stampOf (st .blocks)) (keyIn st a)) (a .kind) (length (partOf st a .names)) g)
   enter-one {a} {place} {spot} {g} O =
       let t : ℕ = stampOf (st .blocks) in
       let C = commit-one s (S .store) (st .blocks) pages lists (S .stored) (S .blocked) (mainOf a) place spot t (keyIn st a) (a .kind) g ready l (O .picked) in (
         decided-enter s st a (O .legal) (E .new) (E .roomy) g (O .picked),
         subst
             (λ (x : ℕ). Stands s (extended s st a g) (pagesAfter s pages spot (keyIn st a))
-            (written s (listsAfter s lists (mainOf a) x place spot t (length (keyIn st a))) (a .kind) (length (partOf st a .names)) g))
+            (written s (listsAfter s lists (mainOf a) x place spot t (keyIn st a)) (a .kind) (length (partOf st a .names)) g))
             (main-count S (a .kind) l)
             (subst
             (λ (x : ℕ). Stands s (extended s st a g) (pagesAfter s pages spot (keyIn st a))
-            (written s (listsAfter s lists (mainOf a) (S .store .count (mainOf a)) place spot t (length (keyIn st a))) (a .kind) x g))
+            (written s (listsAfter s lists (mainOf a) (S .store .count (mainOf a)) place spot t (keyIn st a)) (a .kind) x g))
             (next-count S (a .kind))
             (stands-added S E (added-one S a l (O .old)) _ _ (C .0) (C .1))),
       )
@@ -356,11 +356,11 @@ module _ {s : Sizes} {st : State} {pages lists : Bytes} (S : Stands s st pages l
       → (decide s st a ≡ enter g)
       × Stands s (extended s st a g) (pagesAfter s (pagesAfter s pages hspot (headOf a)) spot (keyIn st a))
       (written s
-      (listsAfter s (listsAfter s lists (headsOf a) (length (partOf st a .heads)) hplace hspot (stampOf (st .blocks)) (length (headOf a))) (mainOf a) (length (partOf st a .names))
+      (listsAfter s (listsAfter s lists (headsOf a) (length (partOf st a .heads)) hplace hspot (stampOf (st .blocks)) (headOf a)) (mainOf a) (length (partOf st a .names))
       place
       spot
       (stampOf (st .blocks))
-      (length (keyIn st a)))
+      (keyIn st a))
       (a .kind)
       (length (partOf st a .names))
       g)
@@ -395,7 +395,7 @@ module _ {s : Sizes} {st : State} {pages lists : Bytes} (S : Stands s st pages l
       After : ℕ → ℕ → ℕ → Type 0
       After h n m = Stands s (extended s st a g) (pagesAfter s (pagesAfter s pages hspot (headOf a)) spot (keyIn st a))
           (written s
-          (listsAfter s (listsAfter s lists (headsOf a) h hplace hspot (stampOf (st .blocks)) (length (headOf a))) (mainOf a) n place spot (stampOf (st .blocks)) (length (keyIn st a)))
+          (listsAfter s (listsAfter s lists (headsOf a) h hplace hspot (stampOf (st .blocks)) (headOf a)) (mainOf a) n place spot (stampOf (st .blocks)) (keyIn st a))
           (a .kind)
           m
           g)

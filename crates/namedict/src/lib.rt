@@ -289,12 +289,12 @@ pub extern "C" fn namedict_open(
 
 // Gives a name its number: fresh, or known already.
 #[no_mangle]
-pub extern "C" fn namedict_add(
+pub extern "C" fn namedict_add<'a>(
     pages: &mut [u8],
     lists: &mut [u8],
     kind: u64,
-    first: &[u8],
-    second: &[u8],
+    first: &'a [u8],
+    second: &'a [u8],
 ) -> NamedictNumbered
     ensures { λ r. ⌜ ((x : AddAnswer) × (r ≡ addNumbers x) × AddPost (now (pages .entry)) (now (lists .entry)) (entered kind (now (first .entry)) (now (second .entry))) x (now (pages .exit)) (now (lists .exit))) ⌝ }
 {
@@ -303,12 +303,12 @@ pub extern "C" fn namedict_add(
 
 // The number that a name has.
 #[no_mangle]
-pub extern "C" fn namedict_find(
+pub extern "C" fn namedict_find<'a>(
     pages: &[u8],
     lists: &[u8],
     kind: u64,
-    first: &[u8],
-    second: &[u8],
+    first: &'a [u8],
+    second: &'a [u8],
 ) -> NamedictNumbered
     ensures { λ r. ⌜ ((x : FindAnswer) × (r ≡ findNumbers x) × FindPost (now (pages .entry)) (now (lists .entry)) (entered kind (now (first .entry)) (now (second .entry))) x (now (pages .entry)) (now (lists .entry))) ⌝ }
 {

@@ -3,6 +3,7 @@ use Prim.Native.Nat.{ℕ, zero, suc, _≤_, _<_}
 use mathlib.Core.Path.{_≡_, refl, sym}
 use mathlib.Core.Bool.{true, false}
 use mathlib.Core.List.{[], _∷_}
+use mathlib.Core.Logic.{_≢_}
 use native.Mathlib.Omega.{arith}
 use borrow.Author.Tests.{ne-eqb}
 use lib.Dec.{eqb}
@@ -30,6 +31,14 @@ needs-tag (suc zero) = refl
 needs-tag (suc (suc zero)) = refl
 needs-tag (suc (suc (suc zero))) = refl
 needs-tag (suc (suc (suc (suc k)))) = sym (ne-eqb (suc (suc (suc (suc k)))) 2 (λ e. omega arith))
+
+-- The kinds that are no strings have heads.
+pub paired : (k : ℕ) → k < kinds → k ≢ 1 → k ≢ 2 → row k .paired ≡ true
+paired zero h p q = refl
+paired (suc zero) h p q = absurd (p refl)
+paired (suc (suc zero)) h p q = absurd (q refl)
+paired (suc (suc (suc zero))) h p q = refl
+paired (suc (suc (suc (suc k)))) h p q = absurd (omega arith)
 
 -- The kinds with heads are the first and the last.
 pub paired-last : (k : ℕ) → k < kinds → row k .paired ≡ true → (k ≡ 0 → ⊥) → k ≡ 3

@@ -1,8 +1,9 @@
 -- What the steps of an entry are given: the slices with their sizes and a kind, and the head and rest of a name. Assumes nothing.
-use Prim.Native.Nat.{ℕ, _<_, _≤_}
+use Prim.Native.Nat.{ℕ, zero, suc, _<_, _≤_}
 use mathlib.Core.Path.{_≡_}
-use lib.ListN.{length}
+use lib.ListN.{length, drop}
 use Rattle.slices.specs.Bytes.{Bytes}
+use Rattle.ranked_pair_iri_dv_dict.specs.Split.{headLength}
 use Rattle.layout.specs.declared.Sizes.{Sizes}
 use Rattle.layout.specs.Sizes.{InRange, kinds, pageBytes, listBytes}
 use Rattle.model.specs.Names.{Name}
@@ -20,3 +21,13 @@ pub record IsPair (k : ℕ) (head rest : Bytes) (a : Name) : Type 0 where
   pub kinded : a .kind ≡ k
   pub headed : row k .head a ≡ head
   pub rested : row k .rest a ≡ rest
+
+-- How many bytes of the first part are the head, where the kind has heads: an IRI splits, a typed value's head is the whole.
+abbrev pub headSize : ℕ → Bytes → ℕ
+headSize zero first = headLength first
+headSize (suc k) first = length first
+
+-- The rest, behind a head of n bytes.
+abbrev pub restBehind : ℕ → ℕ → Bytes → Bytes → Bytes
+restBehind n zero first second = drop n first
+restBehind n (suc k) first second = second

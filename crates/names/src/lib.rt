@@ -1,21 +1,24 @@
-// A name's arguments: the kinds and their dictionaries, the check of refusals 4 to 7 in its two halves, and how a tag stands in its key.
+// A name's arguments: the kinds and their dictionaries, the check of refusals 4 to 7 in its two halves, where head and rest lie, and how a tag stands in its key.
 use bytes_dictionary::EntryId;
 use layout::KINDS;
 use layout::Sizes;
 use meta_dv_dict::LocalId;
 use parts::Mode;
+use ranked_pair_iri_dv_dict::Head;
 use refusals::Refusal;
 use string_dv_dict::Checked;
 ghost use mathlib.Core.Path.{_≡_};
 ghost use mathlib.Core.Bool.{true};
 ghost use mathlib.Core.List.{[]};
-ghost use Prim.Native.Nat.{_<_};
+ghost use Prim.Native.Nat.{_<_, _≤_};
+ghost use lib.ListN.{length};
 ghost use Rattle.layout.specs.Sizes.{kinds, dictionaries};
 ghost use Rattle.string_dv_dict.specs.Answers.{checkedBy};
 ghost use Rattle.model.specs.Names.{entered};
 ghost use Rattle.model.specs.Kinds.{row};
 ghost use Rattle.model.specs.Steps.{badKind, checks};
 ghost use Rattle.names.specs.Checks.{shapeRefusal, textRefusal};
+ghost use Rattle.names.specs.Given.{headSize, restBehind};
 ghost use Rattle.names.specs.Tags.{frontOf, modeOf};
 
 pub const IRI: usize = 0;
@@ -113,6 +116,31 @@ pub fn check_name(s: Sizes, kind: usize, first: &[u8], second: &[u8]) -> Checked
         return Checked::Illegal(why);
     }
     check_text(kind, first, second)
+}
+
+// How many bytes of a name's first part are its head, where its kind has heads.
+pub fn head_length(kind: usize, first: &[u8]) -> usize
+    ensures { λ r. ⌜ (r ≡ headSize kind (now (first .entry))) × (r ≤ length (now (first .entry))) ⌝ }
+{
+    if kind != IRI {
+        return first.len();
+    }
+    let head = ranked_pair_iri_dv_dict::rfind_hashslash_plus(first);
+    let Head::Length(n) = head else {
+        return 0;
+    };
+    n
+}
+
+// What follows a head of n bytes.
+pub fn rest_behind<'a>(kind: usize, first: &'a [u8], second: &'a [u8], n: usize) -> &'a [u8]
+    requires { ⌜ n ≤ length (now first) ⌝ }
+    ensures { λ r. ⌜ now r ≡ restBehind n kind (now (first .entry)) (now (second .entry)) ⌝ }
+{
+    if kind != IRI {
+        return second;
+    }
+    &first[n..]
 }
 
 // What stands in front of a stored tag: its length, or 0 for a long one.

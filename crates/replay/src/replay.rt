@@ -73,13 +73,13 @@ fn read(
     stands(&buffer, 0, first) && stands(&buffer, first.len(), second)
 }
 
-fn call(
+fn call<'a>(
     op: u8,
     kind: u64,
     word: u8,
     number: u64,
-    first: &[u8],
-    second: &[u8],
+    first: &'a [u8],
+    second: &'a [u8],
     pages: &mut [u8],
     lists: &mut [u8],
 ) -> bool {

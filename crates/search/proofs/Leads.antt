@@ -1,4 +1,4 @@
--- The frequent id of a head's number, as the search writes it in front of the rest. Assumes nothing.
+-- The frequent id of a head's number, as the search writes it in front of the rest, and the hash of such a key. Assumes nothing.
 use Prim.Native.Nat.{ℕ, _≤_, _<_}
 use mathlib.Core.Path.{_≡_, refl, sym, ap, _∙_}
 use mathlib.Core.List.{[], _++_, append-nil}
@@ -7,6 +7,8 @@ use native.Mathlib.Omega.{arith}
 use lib.ListN.{length, take, drop}
 use lib.Seq.{take-at}
 use Rattle.slices.specs.Bytes.{Bytes}
+use Rattle.fnv.specs.Fnv.{fnvFrom, fnvOf}
+use Rattle.fnv.proofs.Laws.{fnv-of-append}
 use Rattle.parts.specs.declared.Mode.the-variants.{Raw}
 use Rattle.parts.specs.Parts.{bytesOf}
 use Rattle.bytes_index.specs.Search.{keyOf}
@@ -20,6 +22,13 @@ use Rattle.ranked_pair_dictionary.proofs.Laws.{further-le, length-fid, write-do
 pub raw-key : (front rest : Bytes) → keyOf front Raw [] rest ≡ front ++ rest
 unfolding bytesOf
 raw-key front rest = rw append-nil
+
+-- The hash of the front is taken on over the rest.
+pub raw-hash : (front rest : Bytes) (g h : ℕ) → g ≡ fnvOf front → h ≡ fnvFrom g rest → h ≡ fnvOf (keyOf front Raw [] rest)
+raw-hash front rest g h p q = q ∙ ap (λ (x : ℕ). fnvFrom x rest) p ∙ sym (ap fnvOf (raw-key front rest) ∙ fnv-of-append front rest)
+
+pub whole-hash : (key : Bytes) (h : ℕ) → h ≡ fnvOf key → h ≡ fnvOf (keyOf [] Raw [] key)
+whole-hash key h p = p ∙ ap fnvOf (sym (raw-key [] key))
 
 pub lead-short : (f : ℕ) → length (fid f) ≤ 4
 lead-short f = omega (arith, length-fid f, further-le f)

@@ -1,3 +1,2 @@
 pub mod Leads
-pub mod Splits
 pub mod Finds

@@ -3,19 +3,13 @@ use bytes_dictionary::EntryId;
 use bytes_index::Probe;
 use layout::Sizes;
 use meta_dv_dict::LocalId;
-use names::IRI;
 use names::PLAIN;
 use names::TAGGED;
-use names::TYPED;
 use parts::Mode;
-use ranked_pair_iri_dv_dict::Head;
 use refusals::Written;
 ghost use mathlib.Core.Path.{_≡_};
 ghost use mathlib.Core.Bool.{true};
-ghost use mathlib.Core.List.{[]};
-ghost use Prim.Native.Nat.{_+_, _≤_};
-ghost use lib.ListN.{length};
-ghost use Rattle.layout.specs.Sizes.{kinds};
+ghost use Rattle.fnv.specs.Fnv.{fnvOf};
 ghost use Rattle.bytes_index.specs.Search.{keyOf, Searched};
 ghost use Rattle.model.specs.Names.{entered};
 ghost use Rattle.model.specs.Kinds.{row};
@@ -39,6 +33,7 @@ pub fn find_head(pages: &[u8], lists: &[u8], s: Sizes, k: usize, head: &[u8]) ->
         lists,
         s,
         names::head_dictionary(k),
+        fnv::fnv(head),
         none,
         Mode::Raw,
         none,
@@ -46,22 +41,23 @@ pub fn find_head(pages: &[u8], lists: &[u8], s: Sizes, k: usize, head: &[u8]) ->
     )
 }
 
-// The search for a key among the names of the kind k.
+// The search for a key, whose hash is h, among the names of the kind k.
 fn find_key(
     pages: &[u8],
     lists: &[u8],
     s: Sizes,
     k: usize,
+    h: u32,
     prefix: &[u8],
     mode: Mode,
     tag: &[u8],
     rest: &[u8],
 ) -> Search
-    requires { ⌜ Lent s (now pages) (now lists) k ⌝ }
+    requires { ⌜ Lent s (now pages) (now lists) k × (h ≡ fnvOf (keyOf (now prefix) mode (now tag) (now rest))) ⌝ }
     ensures { λ r. ⌜ FindsKey s (now (pages .entry)) (now (lists .entry)) k (keyOf (now (prefix .entry)) mode (now (tag .entry)) (now (rest .entry))) r ⌝ }
 {
     let d = names::main_dictionary(k);
-    match bytes_index::bytes_to_id(pages, lists, s, d, prefix, mode, tag, rest) {
+    match bytes_index::bytes_to_id(pages, lists, s, d, h, prefix, mode, tag, rest) {
         Probe::At(i) => Search::Found(names::entry_to_local(EntryId(i))),
         Probe::Free(_) => Search::Nothing,
         Probe::Bad => Search::Bad,
@@ -80,22 +76,22 @@ fn find_pair(pages: &[u8], lists: &[u8], s: Sizes, k: usize, head: &[u8], rest: 
             let Written::Length(n) = written else {
                 return Search::Bad;
             };
-            find_key(pages, lists, s, k, &lead[..n], Mode::Raw, &rest[..0], rest)
+            let h = fnv::fnv_from(fnv::fnv(&lead[..n]), rest);
+            find_key(
+                pages,
+                lists,
+                s,
+                k,
+                h,
+                &lead[..n],
+                Mode::Raw,
+                &rest[..0],
+                rest,
+            )
         }
         Probe::Free(_) => Search::Nothing,
         Probe::Bad => Search::Bad,
     }
-}
-
-fn find_iri(pages: &[u8], lists: &[u8], s: Sizes, iri: &[u8]) -> Search
-    requires { ⌜ Lent s (now pages) (now lists) 0 ⌝ }
-    ensures { λ r. ⌜ FindsName s (λ a. a ≡ entered 0 (now (iri .entry)) []) (now (pages .entry)) (now (lists .entry)) r ⌝ }
-{
-    let head = ranked_pair_iri_dv_dict::rfind_hashslash_plus(iri);
-    let Head::Length(n) = head else {
-        return find_pair(pages, lists, s, IRI, &iri[..0], iri);
-    };
-    find_pair(pages, lists, s, IRI, &iri[..n], &iri[n..])
 }
 
 fn find_tagged(pages: &[u8], lists: &[u8], s: Sizes, text: &[u8], tag: &[u8]) -> Search
@@ -103,38 +99,42 @@ fn find_tagged(pages: &[u8], lists: &[u8], s: Sizes, text: &[u8], tag: &[u8]) ->
     ensures { λ r. ⌜ FindsName s (λ a. a ≡ entered 2 (now (text .entry)) (now (tag .entry))) (now (pages .entry)) (now (lists .entry)) r ⌝ }
 {
     let front = [names::tag_front(tag)];
-    find_key(
-        pages,
-        lists,
-        s,
-        TAGGED,
-        &front,
-        names::tag_mode(tag),
-        tag,
-        text,
-    )
+    let mode = names::tag_mode(tag);
+    let h = bytes_index::hash(&front, mode, tag, text);
+    find_key(pages, lists, s, TAGGED, h, &front, mode, tag, text)
 }
 
-// The local number of a legal name.
-pub fn find_name(
+// The local number of a legal name. Both parts have one lifetime, since the rest may lie in either.
+pub fn find_name<'a>(
     pages: &[u8],
     lists: &[u8],
     s: Sizes,
     kind: usize,
-    first: &[u8],
-    second: &[u8],
+    first: &'a [u8],
+    second: &'a [u8],
 ) -> Search
     requires { ⌜ Lent s (now pages) (now lists) kind ⌝ }
     ensures { λ r. ⌜ FindsName s (λ a. a ≡ entered kind (now (first .entry)) (now (second .entry))) (now (pages .entry)) (now (lists .entry)) r ⌝ }
 {
-    if kind == IRI {
-        return find_iri(pages, lists, s, first);
-    }
     if kind == PLAIN {
-        return find_key(pages, lists, s, PLAIN, second, Mode::Raw, second, first);
+        let none = &first[..0];
+        return find_key(
+            pages,
+            lists,
+            s,
+            PLAIN,
+            fnv::fnv(first),
+            none,
+            Mode::Raw,
+            none,
+            first,
+        );
     }
     if kind == TAGGED {
         return find_tagged(pages, lists, s, first, second);
     }
-    find_pair(pages, lists, s, TYPED, first, second)
+    // An IRI and a typed value differ in where head and rest lie.
+    let n = names::head_length(kind, first);
+    let rest = names::rest_behind(kind, first, second, n);
+    find_pair(pages, lists, s, kind, &first[..n], rest)
 }

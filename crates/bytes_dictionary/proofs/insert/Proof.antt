@@ -18,14 +18,14 @@ current : (c : tie.After-spot) →
     (c .spot .given .0 .0 < a .s .n) × (c .spot .given .0 .1 .0 + length (keyOf (a .prefix .now) (a .mode) (a .tag .now) (a .rest .now)) ≤ pageSize (a .s))
 current c =
     let a = c .before .before .before .before .before .before .before .args in
-    subst (HasRoom (a .s) (length (keyOf (a .prefix .now) (a .mode) (a .tag .now) (a .rest .now)))) (c .spot .given .1) (c .before .before .before .before .before .before .before .pre .1)
+    subst (HasRoom (a .s) (length (keyOf (a .prefix .now) (a .mode) (a .tag .now) (a .rest .now)))) (c .spot .given .1) (c .before .before .before .before .before .before .before .pre .1 .0)
 
 next : (c : tie.After-spot2) →
     let a = c .before .before .before .before .before .before .before .args in
     (c .spot2 .given .0 .0 < a .s .n) × (length (keyOf (a .prefix .now) (a .mode) (a .tag .now) (a .rest .now)) ≤ pageSize (a .s))
 next c =
     let a = c .before .before .before .before .before .before .before .args in
-    subst (HasRoom (a .s) (length (keyOf (a .prefix .now) (a .mode) (a .tag .now) (a .rest .now)))) (c .spot2 .given .1) (c .before .before .before .before .before .before .before .pre .1)
+    subst (HasRoom (a .s) (length (keyOf (a .prefix .now) (a .mode) (a .tag .now) (a .rest .now)))) (c .spot2 .given .1) (c .before .before .before .before .before .before .before .pre .1 .0)
 
 enum-known-spot : tie.Need-enum-known-spot
 enum-known-spot c = search needs
@@ -75,8 +75,8 @@ returns c =
     let a = c .before .before .before .before .before .before .before .before .before .before .before .before .before .before .before .before .before .before .before .args in
     let w = c .before .before .before .before .before .before .before .before .write-at in
     after-current (a .s) (a .pages .now) (a .lists .now) (a .d) (a .n) (a .place) (a .spot) (a .stamp) (keyOf (a .prefix .now) (a .mode) (a .tag .now) (a .rest .now))
-    (c .before .before .before .before .before .before .before .before .before .before .before .before .spot .given .0 .0) (c .before .before .before .before .before .before .before .before .before .before .before .before .spot .given .0 .1 .0) (w .result) _ _ _
-    (c .before .before .before .before .before .before .before .before .before .before .before .before .spot .given .1) (w .ensures .0) (w .ensures .1 .0) (w .ensures .1 .1) (c .before .before .extend .ensures)
+    (c .before .before .before .before .before .before .before .before .before .before .before .before .spot .given .0 .0) (c .before .before .before .before .before .before .before .before .before .before .before .before .spot .given .0 .1 .0) (w .result) (a .h) _ _ _
+    (c .before .before .before .before .before .before .before .before .before .before .before .before .spot .given .1) (w .ensures .0) (c .before .before .before .before .before .before .before .before .before .before .before .before .before .before .before .before .before .before .before .pre .1 .1) (w .ensures .1 .0) (w .ensures .1 .1) (c .before .before .extend .ensures)
 
 same-length-3 : tie.Need-same-length-3
 same-length-3 c = search needs
@@ -89,8 +89,8 @@ returns-2 c =
     let a = c .before .before .before .before .before .before .before .before .before .before .before .before .before .before .before .before .before .before .before .args in
     let w = c .before .before .before .before .before .before .before .before .write-at2 in
     after-next (a .s) (a .pages .now) (a .lists .now) (a .d) (a .n) (a .place) (a .spot) (a .stamp) (keyOf (a .prefix .now) (a .mode) (a .tag .now) (a .rest .now))
-    (c .before .before .before .before .before .before .before .before .before .before .before .before .spot2 .given .0 .0) (w .result) _ _ _
-    (c .before .before .before .before .before .before .before .before .before .before .before .before .spot2 .given .1) (w .ensures .0) (w .ensures .1 .0) (w .ensures .1 .1) (c .before .before .take-page .ensures)
+    (c .before .before .before .before .before .before .before .before .before .before .before .before .spot2 .given .0 .0) (w .result) (a .h) _ _ _
+    (c .before .before .before .before .before .before .before .before .before .before .before .before .spot2 .given .1) (w .ensures .0) (c .before .before .before .before .before .before .before .before .before .before .before .before .before .before .before .before .before .before .before .pre .1 .1) (w .ensures .1 .0) (w .ensures .1 .1) (c .before .before .take-page .ensures)
 
 returns-3 : tie.Need-returns-3
 returns-3 c =

@@ -51,11 +51,11 @@ mul-put-quad-2 c = omega (arith, base (c .before .before .before .before .before
 add-put-quad-2 : tie.Need-add-put-quad-2
 add-put-quad-2 c = omega (arith, base (c .before .before .before .before .before .before .before .before .before .before))
 
-add-put-quad-3 : tie.Need-add-put-quad-3
-add-put-quad-3 c = search needs
+place-word-requires : tie.Need-place-word-requires
+place-word-requires c κs = omega (arith, c .before .before .before .before .before .before .before .before .before .before .before .before .pre .0)
 
 put-quad-requires : tie.Need-put-quad-requires
-put-quad-requires c κs = omega (arith, base (c .before .before .before .before .before .before .before .before .before .before))
+put-quad-requires c κs = omega (arith, base (c .before .before .before .before .before .before .before .before .before .before .before))
 
 mul-put-word : tie.Need-mul-put-word
 mul-put-word c = search needs
@@ -92,7 +92,7 @@ write-entry-spec =
     add-put-quad
     mul-put-quad-2
     add-put-quad-2
-    add-put-quad-3
+    place-word-requires
     put-quad-requires
     mul-put-word
     add-put-word-4

@@ -16,7 +16,7 @@ use Rattle.words.specs.Words.{wordAt, quadAt}
 use Rattle.fnv.specs.Fnv.{fnvOf}
 use Rattle.layout.specs.declared.Sizes.{Sizes}
 use Rattle.layout.specs.Sizes.{pageSize, pageBytes}
-use Rattle.layout.specs.Fields.{entryAt, placeAt, pageOf, offsetOf, sizeOf}
+use Rattle.layout.specs.Fields.{entryAt, placeAt, pageOf, offsetOf, sizeOf, namedBy, topOf}
 use Rattle.layout.proofs.Places.{dict-within, list-bytes}
 use Rattle.layout.proofs.Ranges.{page-bytes}
 use Rattle.bytes_index.specs.declared.Span.{Span}
@@ -27,7 +27,7 @@ use Rattle.bytes_index.specs.Field.{entryField, Inside}
 use Rattle.bytes_index.specs.Search.{keyOf, Agree}
 use Rattle.bytes_index.proofs.Span.{the-type}
 use Rattle.bytes_index.proofs.Place.{place-zero, place-next}
-use Rattle.bytes_index.proofs.Index.{Passed, passed, hit, never-past, never-out, never-full, missed}
+use Rattle.bytes_index.proofs.Index.{Passed, passed, hit, never-nothing, never-past, never-out, never-full, missed}
 use Rattle.bytes_index.proofs.Stored.{field-in, front-sized, not-front, not-all, all-bytes}
 use Rattle.bytes_index.proofs.bytes_to_id.Statement.{statement}
 use Rattle.bytes_index.proofs.bytes_to_id.Tie as tie
@@ -43,21 +43,21 @@ abbrev Q : Bytes → Sizes → ℕ → ℕ → ℕ
 Q lists s d j = quadAt lists (placeAt s d j)
 
 abbrev Inv-loop : tie.InvT-loop
-Inv-loop pages lists s d prefix mode tag rest e m places measured n j t w at len end left₀ left =
+Inv-loop pages lists s d h prefix mode tag rest e m places measured n top j t w q at len end left₀ left =
     (left ≤ n) × Agree pages end rest left n
 
 abbrev μ-loop : tie.MeasureT-loop
-μ-loop pages lists s d prefix mode tag rest e m places measured n j t w at len end left₀ left = left
+μ-loop pages lists s d h prefix mode tag rest e m places measured n top j t w q at len end left₀ left = left
 
 abbrev Inv-probe : tie.InvT-probe
-Inv-probe pages lists s d prefix mode tag rest e m places measured n j₀ t₀ w₀ j t w =
+Inv-probe pages lists s d h prefix mode tag rest e m places measured n top j₀ t₀ w₀ j t w =
     (t ≤ m)
     × (j < m)
     × (place m (fnvOf (keyOf prefix mode tag rest)) t ≡ j)
     × ((k : ℕ) → k < t → Passed s (B pages) (W lists s d) (keyOf prefix mode tag rest) (Q lists s d (place m (fnvOf (keyOf prefix mode tag rest)) k)))
 
 abbrev μ-probe : tie.MeasureT-probe
-μ-probe pages lists s d prefix mode tag rest e m places measured n j₀ t₀ w₀ j t w = m - t
+μ-probe pages lists s d h prefix mode tag rest e m places measured n top j₀ t₀ w₀ j t w = m - t
 
 -- ---- places of the code, seen from later ones
 
@@ -67,7 +67,7 @@ entered c = c .before .before .before .before .before .before .before .before .b
 
 -- A turn's start, from where the entry's bytes are known.
 abbrev turn : tie.After-known-told Inv-loop μ-loop Inv-probe μ-probe → tie.At-probe Inv-loop μ-loop Inv-probe μ-probe
-turn c = c .before .before .before .before .before .before .before .before
+turn c = c .before .before .before .before .before .before .before .before .before .before
 
 -- ---- what was read
 
@@ -82,7 +82,7 @@ quad c =
 -- The entry, and where its bytes lie.
 field : (c : tie.After-known-told Inv-loop μ-loop Inv-probe μ-probe)
     → let a = entered (turn c) .args in
-    entryField (a .s) (W (a .lists .now) (a .s) (a .d) (c .before .before .before .before .before .before .quad-at .result - 1))
+    entryField (a .s) (W (a .lists .now) (a .s) (a .d) (namedBy (c .before .before .before .before .before .before .before .before .quad-at .result) - 1))
     ≡ At (c .before .at .given .0 .0) (c .before .at .given .0 .1 .0)
 field c = sym (c .before .before .before .entry .ensures .field) ∙ c .before .at .given .1
 
@@ -90,12 +90,12 @@ inside : (c : tie.After-known-told Inv-loop μ-loop Inv-probe μ-probe) → c .b
 inside c = subst (Inside (entered (turn c) .args .s)) (c .before .at .given .1) (c .before .before .before .entry .ensures .inside)
 
 ends : (c : tie.After-known-told Inv-loop μ-loop Inv-probe μ-probe) → c .before .at .given .0 .0 + c .before .at .given .0 .1 .0 ≤ length (entered (turn c) .args .pages .now)
-ends c = omega (arith, inside c, entered (turn c) .pre .pages-fit)
+ends c = omega (arith, inside c, entered (turn c) .pre .0 .pages-fit)
 
 -- The rest is not longer than the entry.
-rest-in : (c : tie.Then4 Inv-loop μ-loop Inv-probe μ-probe)
+rest-in : (c : tie.Then6 Inv-loop μ-loop Inv-probe μ-probe)
     → length (entered (turn (c .before .before .before)) .args .rest .now) ≤ c .before .before .before .before .at .given .0 .1 .0
-rest-in c = omega (arith, front-sized _ _ _ _ _ (ends (c .before .before .before)) (sym (c .before .front-is .ensures) ∙ c .if4 .taken))
+rest-in c = omega (arith, front-sized _ _ _ _ _ (ends (c .before .before .before)) (sym (c .before .front-is .ensures) ∙ c .if6 .taken))
 
 -- What the let .. else leaves.
 bad : (r : Span) → tagOf the-type r ≡ 1 → r ≡ Bad
@@ -117,6 +117,12 @@ more a b n P h p k l u = go (decLt b k)
     go (yes g) = h k g u
     go (no g) = p k l (omega arith)
 
+-- The hash's top bits, as they were taken before the loop.
+same-top : (c : tie.After-up Inv-loop μ-loop Inv-probe μ-probe) →
+    let a = entered (c .before .before .before .before .before) .args in
+    c .before .before .before .before .before .before .before .top-bits .result ≡ topOf (fnvOf (keyOf (a .prefix .now) (a .mode) (a .tag .now) (a .rest .now)))
+same-top c = c .before .before .before .before .before .before .before .top-bits .ensures .0 ∙ ap topOf (entered (c .before .before .before .before .before) .pre .1)
+
 -- ---- the needs
 
 mul-m : tie.Need-mul-m Inv-loop μ-loop Inv-probe μ-probe
@@ -126,16 +132,16 @@ dict-at-requires : tie.Need-dict-at-requires Inv-loop μ-loop Inv-probe μ-probe
 dict-at-requires c κs = search needs
 
 add-places : tie.Need-add-places Inv-loop μ-loop Inv-probe μ-probe
-add-places c = let z = c .before .before .before .before .before .before in omega (arith, c .dict-at .ensures, dict-within (z .args .s) (z .args .d) (z .pre .known))
+add-places c = let z = c .before .before .before .before .before .before in omega (arith, c .dict-at .ensures, dict-within (z .args .s) (z .args .d) (z .pre .0 .known))
 
 mul-places : tie.Need-mul-places Inv-loop μ-loop Inv-probe μ-probe
-mul-places c = let z = c .before .before .before .before .before .before in omega (arith, c .dict-at .ensures, dict-within (z .args .s) (z .args .d) (z .pre .known))
+mul-places c = let z = c .before .before .before .before .before .before in omega (arith, c .dict-at .ensures, dict-within (z .args .s) (z .args .d) (z .pre .0 .known))
 
 measure-requires : tie.Need-measure-requires Inv-loop μ-loop Inv-probe μ-probe
 measure-requires c κs = search needs
 
-hash-requires : tie.Need-hash-requires Inv-loop μ-loop Inv-probe μ-probe
-hash-requires c κs = search needs
+top-bits-requires : tie.Need-top-bits-requires Inv-loop μ-loop Inv-probe μ-probe
+top-bits-requires c κs = search needs
 
 start-requires : tie.Need-start-requires Inv-loop μ-loop Inv-probe μ-probe
 start-requires c κs = omega arith
@@ -146,8 +152,8 @@ probe-holds c =
     let a = z .args in
     let h = fnvOf (keyOf (a .prefix .now) (a .mode) (a .tag .now) (a .rest .now)) in
     let m = 2 * a .s .e in
-    let e : c .start .result ≡ h % m = c .start .ensures ∙ ap (λ (x : ℕ). x % m) (c .before .hash .ensures) in
-    (omega arith, rw e (mod-lt h (omega (arith, z .pre .ranged .e))), place-zero m h ∙ sym e, λ k l. absurd (omega arith))
+    let e : c .start .result ≡ h % m = c .start .ensures ∙ ap (λ (x : ℕ). x % m) (z .pre .1) in
+    (omega arith, rw e (mod-lt h (omega (arith, z .pre .0 .ranged .e))), place-zero m h ∙ sym e, λ k l. absurd (omega arith))
 
 returns : tie.Need-returns Inv-loop μ-loop Inv-probe μ-probe
 returns c =
@@ -156,19 +162,19 @@ returns c =
     record {
       range = tt;
       right = λ es H.
-          never-full (a .s) (B (a .pages .now)) (W (a .lists .now) (a .s) (a .d)) (Q (a .lists .now) (a .s) (a .d)) es H (z .pre .ranged .e .0) _
+          never-full (a .s) (B (a .pages .now)) (W (a .lists .now) (a .s) (a .d)) (Q (a .lists .now) (a .s) (a .d)) es H (z .pre .0 .ranged .e .1) (z .pre .0 .ranged .e .0) _
           (λ k l. c .before .probe .inv .3 k (omega arith) .0);
     }
 
 add-quad-at : tie.Need-add-quad-at Inv-loop μ-loop Inv-probe μ-probe
 add-quad-at c =
     let z = entered (c .before) in
-    omega (arith, c .before .before .before .before .before .dict-at .ensures, dict-within (z .args .s) (z .args .d) (z .pre .known))
+    omega (arith, c .before .before .before .before .before .dict-at .ensures, dict-within (z .args .s) (z .args .d) (z .pre .0 .known))
 
 quad-at-requires : tie.Need-quad-at-requires Inv-loop μ-loop Inv-probe μ-probe
 quad-at-requires c κs =
     let z = entered (c .before) in
-    omega (arith, c .before .before .before .before .before .dict-at .ensures, dict-within (z .args .s) (z .args .d) (z .pre .known), list-bytes (z .args .s), z .pre .lists-fit)
+    omega (arith, c .before .before .before .before .before .dict-at .ensures, dict-within (z .args .s) (z .args .d) (z .pre .0 .known), list-bytes (z .args .s), z .pre .0 .lists-fit)
 
 returns-2 : tie.Need-returns-2 Inv-loop μ-loop Inv-probe μ-probe
 returns-2 c =
@@ -177,26 +183,40 @@ returns-2 c =
     record {
       range = omega arith;
       right = λ es H.
-          missed (a .s) (B (a .pages .now)) (W (a .lists .now) (a .s) (a .d)) (Q (a .lists .now) (a .s) (a .d)) es H _ (p .t) (p .j) (omega arith) (p .inv .2)
+          missed (a .s) (B (a .pages .now)) (W (a .lists .now) (a .s) (a .d)) (Q (a .lists .now) (a .s) (a .d)) es H (entered (c .before .before .before) .pre .0 .ranged .e .1) _ (p .t) (p .j) (omega arith) (p .inv .2)
           (sym (quad (c .before)) ∙ c .if2 .taken)
           (p .inv .3);
     }
 
 returns-3 : tie.Need-returns-3 Inv-loop μ-loop Inv-probe μ-probe
 returns-3 c =
-    let a = entered (c .before .before .before .before) .args in
+    let z = entered (c .before .before .before .before .before) in
+    let a = z .args in
+    let q = quad (c .before .before .before) in
     record {
       range = tt;
       right = λ es H.
-          never-past (a .s) (B (a .pages .now)) (W (a .lists .now) (a .s) (a .d)) (Q (a .lists .now) (a .s) (a .d)) es H (c .before .before .before .before .probe .j) (omega arith)
-          (omega (arith, quad (c .before .before), c .if3 .taken));
+          never-nothing (a .s) (B (a .pages .now)) (W (a .lists .now) (a .s) (a .d)) (Q (a .lists .now) (a .s) (a .d)) es H (z .pre .0 .ranged .e .1)
+          (c .before .before .before .before .before .probe .j) (omega arith) (λ y. c .before .before .if2 .left (q ∙ y)) (ap namedBy (sym q) ∙ c .if4 .taken);
+    }
+
+returns-4 : tie.Need-returns-4 Inv-loop μ-loop Inv-probe μ-probe
+returns-4 c =
+    let z = entered (c .before .before .before .before .before .before) in
+    let a = z .args in
+    let q = quad (c .before .before .before .before) in
+    record {
+      range = tt;
+      right = λ es H.
+          never-past (a .s) (B (a .pages .now)) (W (a .lists .now) (a .s) (a .d)) (Q (a .lists .now) (a .s) (a .d)) es H (z .pre .0 .ranged .e .1)
+          (c .before .before .before .before .before .before .probe .j) (omega arith) (λ y. c .before .before .before .if2 .left (q ∙ y)) (subst (λ (x : ℕ). a .s .e < namedBy x) q (c .if5 .taken));
     }
 
 sub-entry : tie.Need-sub-entry Inv-loop μ-loop Inv-probe μ-probe
 sub-entry c = omega arith
 
 entry-requires : tie.Need-entry-requires Inv-loop μ-loop Inv-probe μ-probe
-entry-requires c κs = let z = entered (c .before .before .before .before) in (z .pre .ranged, z .pre .lists-fit, z .pre .known, omega arith)
+entry-requires c κs = let z = entered (c .before .before .before .before .before .before) in (z .pre .0 .ranged, z .pre .0 .lists-fit, z .pre .0 .known, omega arith)
 
 enum-known-at : tie.Need-enum-known-at Inv-loop μ-loop Inv-probe μ-probe
 enum-known-at c = search needs
@@ -204,23 +224,26 @@ enum-known-at c = search needs
 enum-told : tie.Need-enum-told Inv-loop μ-loop Inv-probe μ-probe
 enum-told c = search needs
 
-returns-4 : tie.Need-returns-4 Inv-loop μ-loop Inv-probe μ-probe
-returns-4 c =
-    let a = entered (c .before .before .before .before .before .before .before) .args in
-    let q = quad (c .before .before .before .before .before) in
+returns-5 : tie.Need-returns-5 Inv-loop μ-loop Inv-probe μ-probe
+returns-5 c =
+    let z = entered (c .before .before .before .before .before .before .before .before .before) in
+    let a = z .args in
+    let q = quad (c .before .before .before .before .before .before .before) in
     let w = W (a .lists .now) (a .s) (a .d) in
     record {
       range = tt;
       right = λ es H.
           let o =
-          never-out (a .s) (B (a .pages .now)) w (Q (a .lists .now) (a .s) (a .d)) es H
-          (c .before .before .before .before .before .before .before .probe .j) (omega arith) (λ z. c .before .before .before .before .if2 .left (q ∙ z)) in
+          never-out (a .s) (B (a .pages .now)) w (Q (a .lists .now) (a .s) (a .d)) es H (z .pre .0 .ranged .e .1)
+          (c .before .before .before .before .before .before .before .before .before .probe .j) (omega arith) (λ y. c .before .before .before .before .before .before .if2 .left (q ∙ y)) in
           never-bad (a .s) _ (o .0) (o .1)
-          (ap (λ (x : ℕ). entryField (a .s) (w (x - 1))) (sym q) ∙ sym (c .before .before .entry .ensures .field) ∙ bad (c .before .before .entry .result) (c .before .match .keys2));
+          (ap (λ (x : ℕ). entryField (a .s) (w (namedBy x - 1))) (sym q)
+          ∙ sym (c .before .before .entry .ensures .field)
+          ∙ bad (c .before .before .entry .result) (c .before .match .keys2));
     }
 
 add-end : tie.Need-add-end Inv-loop μ-loop Inv-probe μ-probe
-add-end c = let z = entered (turn c) in omega (arith, inside c, page-bytes (z .args .s) (z .pre .ranged))
+add-end c = let z = entered (turn c) in omega (arith, inside c, page-bytes (z .args .s) (z .pre .0 .ranged))
 
 sub-front-is : tie.Need-sub-front-is Inv-loop μ-loop Inv-probe μ-probe
 sub-front-is c = omega arith
@@ -232,7 +255,7 @@ part-front-is-end : tie.Need-part-front-is-end Inv-loop μ-loop Inv-probe μ-pro
 part-front-is-end c = let l = ends c in search needs
 
 front-is-requires : tie.Need-front-is-requires Inv-loop μ-loop Inv-probe μ-probe
-front-is-requires c κs = c .before .before .before .before .before .before .before .before .before .before .before .before .measure .ensures
+front-is-requires c κs = c .before .before .before .before .before .before .before .before .before .before .before .before .before .before .measure .ensures
 
 loop-holds : tie.Need-loop-holds Inv-loop μ-loop Inv-probe μ-probe
 loop-holds c = (omega arith, λ k l u. absurd (omega arith))
@@ -257,54 +280,81 @@ up-requires : tie.Need-up-requires Inv-loop μ-loop Inv-probe μ-probe
 up-requires c κs = omega arith
 
 add-t : tie.Need-add-t Inv-loop μ-loop Inv-probe μ-probe
-add-t c = omega (arith, entered (turn (c .before .before .before .before)) .pre .ranged .e)
+add-t c = omega (arith, entered (c .before .before .before .before .before) .pre .0 .ranged .e)
 
 probe-less : tie.Need-probe-less Inv-loop μ-loop Inv-probe μ-probe
 probe-less c = omega arith
 
 probe-again : tie.Need-probe-again Inv-loop μ-loop Inv-probe μ-probe
 probe-again c =
-    let k = c .before .before .before .before in
-    let a = entered (turn k) .args in
-    let p = turn k .probe in
-    let q = c .before .before .before .before .before .before .before .before .before .before in
-    let r = c .before .before .front-is .ensures in
+    let g = c .before .before in
+    let z = entered (c .before .before .before .before .before) in
+    let a = z .args in
+    let p = c .before .before .before .before .before .probe in
+    let q = c .before .before .before in
     let key = keyOf (a .prefix .now) (a .mode) (a .tag .now) (a .rest .now) in
     let w = W (a .lists .now) (a .s) (a .d) in
-    let n : Stands (a .s) (B (a .pages .now)) (w (q .quad-at .result - 1)) key → ⊥ =
+    let n : topOf (q .quad-at .result) ≡ topOf (fnvOf key) → Stands (a .s) (B (a .pages .now)) (w (namedBy (q .quad-at .result) - 1)) key → ⊥ =
     ⊎-elim
-    (λ x. not-all _ _ _ _ _ _ _ _ refl (field k) (ends k) (sym r ∙ x .0 .taken) (x .3 .ensures .differ (x .4 .taken)))
-    (λ x. not-front _ _ _ _ _ _ _ _ refl (field k) (ends k) (sym r ∙ x .left))
-    (c .before .if4 .came) in (
+    (λ x e.
+    let k : tie.After-known-told Inv-loop μ-loop Inv-probe μ-probe =
+    record {
+      before = record {
+        before = record {
+          before = record { before = record { before = record { before = record { before = g; if3 = x .0 }; if4 = x .1 }; if5 = x .2 }; entry = x .3 };
+          match = x .4;
+        };
+        at = x .5;
+      };
+      known-told = x .6;
+    } in
+    not-all _ _ _ _ _ _ _ _ refl (field k) (ends k) (sym (x .8 .ensures) ∙ x .9 .taken) (x .12 .ensures .differ (x .13 .taken)))
+    (⊎-elim
+    (λ x e.
+    let k : tie.After-known-told Inv-loop μ-loop Inv-probe μ-probe =
+    record {
+      before = record {
+        before = record {
+          before = record { before = record { before = record { before = record { before = g; if3 = x .0 }; if4 = x .1 }; if5 = x .2 }; entry = x .3 };
+          match = x .4;
+        };
+        at = x .5;
+      };
+      known-told = x .6;
+    } in
+    not-front _ _ _ _ _ _ _ _ refl (field k) (ends k) (sym (x .8 .ensures) ∙ x .9 .left))
+    (λ x e. absurd (x .0 .left (e ∙ sym (same-top c)))))
+    (c .before .if3 .came) in (
       omega arith,
       rw (c .up .ensures) (mod-lt (p .j + 1) (omega arith)),
       place-next (2 * a .s .e) (fnvOf key) (p .t) ∙ rw (p .inv .2) (sym (c .up .ensures)),
       below-more _ _ (p .inv .3)
           (passed (a .s) (B (a .pages .now)) w (Q (a .lists .now) (a .s) (a .d)) key (2 * a .s .e) (fnvOf key) (p .t) (p .j) (q .quad-at .result)
-          (p .inv .2) (quad q) (c .before .before .before .before .before .before .before .before .before .if2 .left) n),
+          (p .inv .2) (quad q) (g .if2 .left) n),
     )
 
-sub-t22 : tie.Need-sub-t22 Inv-loop μ-loop Inv-probe μ-probe
-sub-t22 c = omega arith
+sub-t25 : tie.Need-sub-t25 Inv-loop μ-loop Inv-probe μ-probe
+sub-t25 c = omega arith
 
-returns-5 : tie.Need-returns-5 Inv-loop μ-loop Inv-probe μ-probe
-returns-5 c =
+returns-6 : tie.Need-returns-6 Inv-loop μ-loop Inv-probe μ-probe
+returns-6 c =
     let k = c .before .before .before .before .before in
-    let a = entered (turn k) .args in
-    let q = quad (c .before .before .before .before .before .before .before .before .before .before .before) in
+    let z = entered (turn k) in
+    let a = z .args in
+    let q = quad (c .before .before .before .before .before .before .before .before .before .before .before .before .before) in
     let key = keyOf (a .prefix .now) (a .mode) (a .tag .now) (a .rest .now) in
     let b = B (a .pages .now) in
     let w = W (a .lists .now) (a .s) (a .d) in
-    let t : Stands (a .s) b (w (c .before .before .before .before .before .before .before .before .before .before .before .quad-at .result - 1)) key =
-    all-bytes _ _ _ _ _ _ _ _ refl (field k) (ends k) (sym (c .before .before .before .front-is .ensures) ∙ c .before .before .if4 .taken)
-    (λ i z l. c .before .loop .inv .1 i (omega arith) (omega arith)) in
+    let t : Stands (a .s) b (w (namedBy (c .before .before .before .before .before .before .before .before .before .before .before .before .before .quad-at .result) - 1)) key =
+    all-bytes _ _ _ _ _ _ _ _ refl (field k) (ends k) (sym (c .before .before .before .front-is .ensures) ∙ c .before .before .if6 .taken)
+    (λ i y l. c .before .loop .inv .1 i (omega arith) (omega arith)) in
     record {
       range = omega arith;
       right = λ es H.
-          subst (λ (x : ℕ). es (x - 1) ≡ some key) (sym q)
-          (hit (a .s) b w (Q (a .lists .now) (a .s) (a .d)) es H (turn k .probe .j) key (omega arith)
-          (λ z. c .before .before .before .before .before .before .before .before .before .before .if2 .left (q ∙ z))
-          (subst (λ (x : ℕ). Stands (a .s) b (w (x - 1)) key) q t));
+          subst (λ (x : ℕ). es (namedBy x - 1) ≡ some key) (sym q)
+          (hit (a .s) b w (Q (a .lists .now) (a .s) (a .d)) es H (z .pre .0 .ranged .e .1) (turn k .probe .j) key (turn k .probe .inv .1)
+          (λ y. c .before .before .before .before .before .before .before .before .before .before .before .before .if2 .left (q ∙ y))
+          (subst (λ (x : ℕ). Stands (a .s) b (w (namedBy x - 1)) key) q t));
     }
 
 pub bytes-to-id-spec : {M : Type 1} → statement M
@@ -320,7 +370,7 @@ bytes-to-id-spec =
     add-places
     mul-places
     measure-requires
-    hash-requires
+    top-bits-requires
     start-requires
     probe-holds
     returns
@@ -328,11 +378,12 @@ bytes-to-id-spec =
     quad-at-requires
     returns-2
     returns-3
+    returns-4
     sub-entry
     entry-requires
     enum-known-at
     enum-told
-    returns-4
+    returns-5
     add-end
     sub-front-is
     part-front-is-start
@@ -347,5 +398,5 @@ bytes-to-id-spec =
     add-t
     probe-less
     probe-again
-    sub-t22
-    returns-5)
+    sub-t25
+    returns-6)

@@ -20,7 +20,7 @@ sized : (c : tie.After-measure) →
 sized c =
     let z = c .before .before .before .before .before .before in
     let l = length-key (z .args .prefix .now) (z .args .mode) (z .args .tag .now) (z .args .rest .now) in
-    (omega (arith, l, c .measure .ensures), omega (arith, l, c .measure .ensures, z .pre .1 .1))
+    (omega (arith, l, c .measure .ensures), omega (arith, l, c .measure .ensures, z .pre .1 .1 .0))
 
 -- The plan that was made.
 fit : (c : tie.After-x) →
@@ -59,7 +59,7 @@ insert-requires c κs =
     let L = z .pre .0 in
     let F = fit x in (
       (record { ranged = L .ranged; pages-fit = L .pages-fit; lists-fit = L .lists-fit; known = c .before .before .main-dictionary .ensures .1 }, F .number, z .pre .1 .0 .range),
-      subst (λ n. HasRoom (z .args .s) n (x .x .given .0 .0 .spot)) (sized (x .before .before .before .before) .0) (F .room),
+      (subst (λ n. HasRoom (z .args .s) n (x .x .given .0 .0 .spot)) (sized (x .before .before .before .before) .0) (F .room), z .pre .1 .1 .1),
     )
 
 take-block-requires : tie.Need-take-block-requires

@@ -1,12 +1,13 @@
 -- The pair's key has the number that the head is about to get; each answer by its law. Assumes nothing.
 use Prim.Native.Nat.{_+_, _≤_, _<_}
-use mathlib.Core.Path.{_≡_, sym, subst, _∙_}
+use mathlib.Core.Path.{_≡_, sym, ap, subst, _∙_}
 use mathlib.Core.List.{[], _∷_, _++_}
 use native.Mathlib.Omega.{arith}
 use lib.ListN.{length, take, length-append}
 use lib.Seq.{length-take-le}
 use Rattle.slices.specs.Bytes.{Bytes}
 use Rattle.limits.specs.Limits.{nameLimit}
+use Rattle.fnv.specs.Fnv.{fnvOf}
 use Rattle.parts.specs.declared.Mode.the-variants.{Raw}
 use Rattle.ranked_pair_dictionary.specs.FrequentId.{fid}
 use Rattle.bytes_index.specs.Search.{keyOf, Searched}
@@ -15,7 +16,7 @@ use Rattle.bytes_dictionary.specs.declared.Counted.the-variants.{Entries}
 use Rattle.bytes_dictionary.specs.Reading.{countIn}
 use Rattle.bytes_dictionary.proofs.Reading.{counted-by}
 use Rattle.model.specs.Kinds.{row}
-use Rattle.search.proofs.Leads.{lead-short, lead-length, never-refused, lead-key}
+use Rattle.search.proofs.Leads.{raw-hash, lead-short, lead-length, never-refused, lead-key}
 use Rattle.enter_pair.specs.declared.PairPlanned.the-variants as P
 use Rattle.enter_pair.specs.Plans.{PairPlanFits, PlansPair}
 use Rattle.enter_pair.proofs.Writes.{raw-key}
@@ -28,62 +29,74 @@ use Rattle.enter_pair.proofs.add_both.Tie as tie
 abbrev zeros : Bytes
 zeros = 0 ∷ 0 ∷ 0 ∷ 0 ∷ []
 
--- The number h that the head is about to get.
-abbrev entered : tie.After-h → tie.Start
+-- The number f that the head is about to get.
+abbrev entered : tie.After-f → tie.Start
 entered c = c .before .before .before .before .before .before .before .before .before
 
-counted : (c : tie.After-h) → let a = entered c .args in countIn (a .s) (headWord (a .lists .now) (a .k)) ≡ Entries (c .h .given .0 .0)
+counted : (c : tie.After-f) → let a = entered c .args in countIn (a .s) (headWord (a .lists .now) (a .k)) ≡ Entries (c .f .given .0 .0)
 counted c =
     let f = c .before .before in
     let a = entered c .args in
-    counted-head (a .s) (a .lists .now) (a .k) _ _ _ (f .before .head-dictionary .ensures .0) (f .count .ensures) (c .h .given .1)
+    counted-head (a .s) (a .lists .now) (a .k) _ _ _ (f .before .head-dictionary .ensures .0) (f .count .ensures) (c .f .given .1)
 
-small : (c : tie.After-h) → c .h .given .0 .0 < 1073741824
+small : (c : tie.After-f) → c .f .given .0 .0 < 1073741824
 small c = let z = entered c in omega (arith, counted-by (z .args .s) _ _ (counted c), z .pre .0 .0 .ranged .e .1)
 
 -- The length m of its frequent id.
-abbrev numbered : tie.After-m → tie.After-h
+abbrev numbered : tie.After-m → tie.After-f
 numbered c = c .before .before .before .before .before .before
 
-length-m : (c : tie.After-m) → c .m .given .0 .0 ≡ length (fid (numbered c .h .given .0 .0))
+length-m : (c : tie.After-m) → c .m .given .0 .0 ≡ length (fid (numbered c .f .given .0 .0))
 length-m c =
     let w = c .before .before .before .write-frequent-id in
-    let h = numbered c in
-    lead-length (h .h .given .0 .0) zeros (small h) (omega arith) (w .result) (c .m .given .0 .0) (w .ensures .0) (c .m .given .1)
+    let f = numbered c in
+    lead-length (f .f .given .0 .0) zeros (small f) (omega arith) (w .result) (c .m .given .0 .0) (w .ensures .0) (c .m .given .1)
 
 lead-in : (c : tie.After-m) → c .m .given .0 .0 ≤ length (c .before .before .before .write-frequent-id .last .1 .0)
-lead-in c = omega (arith, length-m c, lead-short (numbered c .h .given .0 .0), c .before .before .before .write-frequent-id .kept)
+lead-in c = omega (arith, length-m c, lead-short (numbered c .f .given .0 .0), c .before .before .before .write-frequent-id .kept)
 
 -- The key of the pair.
 key-at : (c : tie.After-m) →
     let a = entered (numbered c) .args in
-    keyOf (take (c .m .given .0 .0) (c .before .before .before .write-frequent-id .last .1 .0)) Raw [] (a .rest .now) ≡ fid (numbered c .h .given .0 .0) ++ a .rest .now
+    keyOf (take (c .m .given .0 .0) (c .before .before .before .write-frequent-id .last .1 .0)) Raw [] (a .rest .now) ≡ fid (numbered c .f .given .0 .0) ++ a .rest .now
 key-at c =
-    let h = numbered c in
-    lead-key (h .h .given .0 .0) zeros (small h) (omega arith) _ (entered h .args .rest .now) _ (c .before .before .before .write-frequent-id .ensures .1) (length-m c)
+    let f = numbered c in
+    lead-key (f .f .given .0 .0) zeros (small f) (omega arith) _ (entered f .args .rest .now) _ (c .before .before .before .write-frequent-id .ensures .1) (length-m c)
 
 lead-rest : (c : tie.After-m) →
     let a = entered (numbered c) .args in
-    take (c .m .given .0 .0) (c .before .before .before .write-frequent-id .last .1 .0) ++ a .rest .now ≡ fid (numbered c .h .given .0 .0) ++ a .rest .now
+    take (c .m .given .0 .0) (c .before .before .before .write-frequent-id .last .1 .0) ++ a .rest .now ≡ fid (numbered c .f .given .0 .0) ++ a .rest .now
 lead-rest c = sym (raw-key (take (c .m .given .0 .0) (c .before .before .before .write-frequent-id .last .1 .0)) (entered (numbered c) .args .rest .now)) ∙ key-at c
 
 sized : (c : tie.After-m) →
     let rest = entered (numbered c) .args .rest .now in
-    (c .m .given .0 .0 + length rest ≡ length (fid (numbered c .h .given .0 .0) ++ rest)) × (c .m .given .0 .0 + length rest ≤ 4004)
+    (c .m .given .0 .0 + length rest ≡ length (fid (numbered c .f .given .0 .0) ++ rest)) × (c .m .given .0 .0 + length rest ≤ 4004)
 unfolding nameLimit
 sized c =
-    let h = numbered c in
-    let z = entered h in
-    (omega (arith, length-m c, length-append (fid (h .h .given .0 .0)) (z .args .rest .now)), omega (arith, length-m c, lead-short (h .h .given .0 .0), z .pre .0 .2))
+    let f = numbered c in
+    let z = entered f in
+    (omega (arith, length-m c, length-append (fid (f .f .given .0 .0)) (z .args .rest .now)), omega (arith, length-m c, lead-short (f .f .given .0 .0), z .pre .0 .2))
+
+-- Its hash.
+abbrev before-hash : tie.After-fnv-from → tie.After-m
+before-hash c = c .before .before .before .before
+
+hashed : (c : tie.After-fnv-from) →
+    let m = before-hash c in
+    c .fnv-from .result ≡ fnvOf (keyOf (take (m .m .given .0 .0) (m .before .before .before .write-frequent-id .last .1 .0)) Raw [] (entered (numbered m) .args .rest .now))
+hashed c = raw-hash _ _ _ _ (c .before .fnv .ensures) (c .fnv-from .ensures)
 
 -- The search for it.
+abbrev hash-of : tie.After-bytes-to-id → tie.After-fnv-from
+hash-of c = c .before .before .before .before .before .before
+
 abbrev led : tie.After-bytes-to-id → tie.After-m
-led c = c .before .before .before .before .before .before .before
+led c = before-hash (hash-of c)
 
 searched : (c : tie.After-bytes-to-id) →
-    let h = numbered (led c) in
-    let a = entered h .args in
-    Searched (a .s) (row (a .k) .mainAt) (a .pages .now) (a .lists .now) (fid (h .h .given .0 .0) ++ a .rest .now) (c .bytes-to-id .result)
+    let f = numbered (led c) in
+    let a = entered f .args in
+    Searched (a .s) (row (a .k) .mainAt) (a .pages .now) (a .lists .now) (fid (f .f .given .0 .0) ++ a .rest .now) (c .bytes-to-id .result)
 searched c =
     let m = led c in
     let a = entered (numbered m) .args in
@@ -91,36 +104,39 @@ searched c =
     (subst (λ j. Searched (a .s) j (a .pages .now) (a .lists .now) (keyOf (take (m .m .given .0 .0) (m .before .before .before .write-frequent-id .last .1 .0)) Raw [] (a .rest .now)) (c .bytes-to-id .result)) (c .before .before .before .before .before .main-dictionary .ensures .0) (c .bytes-to-id .ensures))
 
 free : (c : tie.After-found) →
-    let h = numbered (led (c .before .before)) in
-    let a = entered h .args in
-    Searched (a .s) (row (a .k) .mainAt) (a .pages .now) (a .lists .now) (fid (h .h .given .0 .0) ++ a .rest .now) (Free (c .found .given .0 .0))
+    let f = numbered (led (c .before .before)) in
+    let a = entered f .args in
+    Searched (a .s) (row (a .k) .mainAt) (a .pages .now) (a .lists .now) (fid (f .f .given .0 .0) ++ a .rest .now) (Free (c .found .given .0 .0))
 free c =
-    let h = numbered (led (c .before .before)) in
-    let a = entered h .args in
-    subst (Searched (a .s) (row (a .k) .mainAt) (a .pages .now) (a .lists .now) (fid (h .h .given .0 .0) ++ a .rest .now)) (c .found .given .1) (searched (c .before .before))
+    let f = numbered (led (c .before .before)) in
+    let a = entered f .args in
+    subst (Searched (a .s) (row (a .k) .mainAt) (a .pages .now) (a .lists .now) (fid (f .f .given .0 .0) ++ a .rest .now)) (c .found .given .1) (searched (c .before .before))
 
 -- The plan.
 abbrev sought : tie.After-plan-pair → tie.After-found
 sought c = c .before .before .before
 
 planned : (c : tie.After-plan-pair) →
-    let h = numbered (led (sought c .before .before)) in
-    let a = entered h .args in
-    PlansPair (a .s) (a .lists .now) (a .k) (h .h .given .0 .0) (length (a .head .now)) (length (fid (h .h .given .0 .0) ++ a .rest .now)) (c .plan-pair .result)
+    let f = numbered (led (sought c .before .before)) in
+    let a = entered f .args in
+    PlansPair (a .s) (a .lists .now) (a .k) (f .f .given .0 .0) (length (a .head .now)) (length (fid (f .f .given .0 .0) ++ a .rest .now)) (c .plan-pair .result)
 planned c =
     let m = led (sought c .before .before) in
-    let h = numbered m in
-    let a = entered h .args in
-    subst (λ n. PlansPair (a .s) (a .lists .now) (a .k) (h .h .given .0 .0) (length (a .head .now)) n (c .plan-pair .result)) (sized m .0) (c .plan-pair .ensures)
+    let f = numbered m in
+    let a = entered f .args in
+    subst (λ n. PlansPair (a .s) (a .lists .now) (a .k) (f .f .given .0 .0) (length (a .head .now)) n (c .plan-pair .result)) (sized m .0) (c .plan-pair .ensures)
+
+abbrev searched-at : tie.After-x → tie.After-bytes-to-id
+searched-at c = sought (c .before .before) .before .before
 
 ready : (c : tie.After-x) →
-    let h = numbered (led (sought (c .before .before) .before .before)) in
-    let a = entered h .args in
-    PlansPair (a .s) (a .lists .now) (a .k) (h .h .given .0 .0) (length (a .head .now)) (length (fid (h .h .given .0 .0) ++ a .rest .now)) (P.Ready (c .x .given .0 .0))
+    let f = numbered (led (searched-at c)) in
+    let a = entered f .args in
+    PlansPair (a .s) (a .lists .now) (a .k) (f .f .given .0 .0) (length (a .head .now)) (length (fid (f .f .given .0 .0) ++ a .rest .now)) (P.Ready (c .x .given .0 .0))
 ready c =
-    let h = numbered (led (sought (c .before .before) .before .before)) in
-    let a = entered h .args in
-    subst (PlansPair (a .s) (a .lists .now) (a .k) (h .h .given .0 .0) (length (a .head .now)) (length (fid (h .h .given .0 .0) ++ a .rest .now))) (c .x .given .1) (planned (c .before .before))
+    let f = numbered (led (searched-at c)) in
+    let a = entered f .args in
+    subst (PlansPair (a .s) (a .lists .now) (a .k) (f .f .given .0 .0) (length (a .head .now)) (length (fid (f .f .given .0 .0) ++ a .rest .now))) (c .x .given .1) (planned (c .before .before))
 
 head-dictionary-requires : tie.Need-head-dictionary-requires
 head-dictionary-requires c κs = search needs
@@ -128,8 +144,8 @@ head-dictionary-requires c κs = search needs
 count-requires : tie.Need-count-requires
 count-requires c κs = search needs
 
-enum-known-h : tie.Need-enum-known-h
-enum-known-h c = search needs
+enum-known-f : tie.Need-enum-known-f
+enum-known-f c = search needs
 
 enum-told : tie.Need-enum-told
 enum-told c = search needs
@@ -163,25 +179,42 @@ same-length-2 c = search needs
 returns-2 : tie.Need-returns-2
 returns-2 c =
     let w = c .before .before .before in
-    let h = w .before .before .before in
-    absurd (never-refused (h .h .given .0 .0) zeros (small h) (omega arith) (w .write-frequent-id .result) _ (w .write-frequent-id .ensures .0) (c .enum-told2 .given .1))
+    let f = w .before .before .before in
+    absurd (never-refused (f .f .given .0 .0) zeros (small f) (omega arith) (w .write-frequent-id .result) _ (w .write-frequent-id .ensures .0) (c .enum-told2 .given .1))
+
+array-share-prefix-lead : tie.Need-array-share-prefix-lead
+array-share-prefix-lead c =
+    lead-in (c .before)
+
+slice-aggregate-fnv : tie.Need-slice-aggregate-fnv
+slice-aggregate-fnv c =
+    sym (length-take-le _ _ (lead-in (c .before .before)))
+
+fnv-requires : tie.Need-fnv-requires
+fnv-requires c κs = search needs
+
+fnv-from-requires : tie.Need-fnv-from-requires
+fnv-from-requires c κs = search needs
 
 main-dictionary-requires : tie.Need-main-dictionary-requires
 main-dictionary-requires c κs = search needs
 
-array-share-prefix-lead : tie.Need-array-share-prefix-lead
-array-share-prefix-lead c =
-    lead-in (c .before .before .before .before)
+array-share-prefix-lead-2 : tie.Need-array-share-prefix-lead-2
+array-share-prefix-lead-2 c =
+    lead-in (before-hash (c .before .before .before))
 
 slice-aggregate-bytes-to-id : tie.Need-slice-aggregate-bytes-to-id
 slice-aggregate-bytes-to-id c =
-    sym (length-take-le _ _ (lead-in (c .before .before .before .before .before)))
+    sym (length-take-le _ _ (lead-in (before-hash (c .before .before .before .before))))
 
 slice-aggregate-bytes-to-id-2 : tie.Need-slice-aggregate-bytes-to-id-2
 slice-aggregate-bytes-to-id-2 c = search needs
 
 bytes-to-id-requires : tie.Need-bytes-to-id-requires
-bytes-to-id-requires c κs = search needs
+bytes-to-id-requires c κs =
+    let h = c .before .before .before .before .before in
+    let L = entered (numbered (before-hash h)) .pre .0 .0 in
+    (record { ranged = L .ranged; pages-fit = L .pages-fit; lists-fit = L .lists-fit; known = c .before .before .before .before .main-dictionary .ensures .1 }, hashed h)
 
 enum-known-found : tie.Need-enum-known-found
 enum-known-found c = search needs
@@ -194,21 +227,21 @@ same-length-4 c = search needs
 
 returns-3 : tie.Need-returns-3
 returns-3 c =
-    let h = numbered (led (c .before)) in
-    let z = entered h in
+    let f = numbered (led (c .before)) in
+    let z = entered f in
     let a = z .args in
-    both-searched (a .s) (a .pages .now) (a .lists .now) (a .k) (a .head .now) (a .rest .now) (z .pre .0 .0) (z .pre .0 .1) (a .headplace) (z .pre .1) _ (counted h) (c .before .bytes-to-id .result)
+    both-searched (a .s) (a .pages .now) (a .lists .now) (a .k) (a .head .now) (a .rest .now) (z .pre .0 .0) (z .pre .0 .1) (a .headplace) (z .pre .1) _ (counted f) (c .before .bytes-to-id .result)
     (c .match3 .keys2)
     (searched (c .before))
 
 add-plan-pair : tie.Need-add-plan-pair
 add-plan-pair c =
-    omega (arith, sized (c .before .before .before .before .before .before .before .before .before .before .before))
+    omega (arith, sized (led (c .before .before .before .before)))
 
 plan-pair-requires : tie.Need-plan-pair-requires
 unfolding nameLimit
 plan-pair-requires c κs =
-    let m = c .before .before .before .before .before .before .before .before .before .before .before in
+    let m = led (c .before .before .before .before) in
     let p = entered (numbered m) .pre .0 in
     let L = p .0 in
     ((L .ranged, L .lists-fit, L .kinded, p .1), (omega (arith, p .2), omega (arith, sized m)))
@@ -216,24 +249,31 @@ plan-pair-requires c κs =
 enum-known-x : tie.Need-enum-known-x
 enum-known-x c = search needs
 
-array-share-prefix-lead-2 : tie.Need-array-share-prefix-lead-2
-array-share-prefix-lead-2 c =
-    lead-in (c .before .before .before .before .before .before .before .before .before .before .before .before .before .before .before .before .before)
+fnv-requires-2 : tie.Need-fnv-requires-2
+fnv-requires-2 c κs = search needs
+
+array-share-prefix-lead-3 : tie.Need-array-share-prefix-lead-3
+array-share-prefix-lead-3 c =
+    lead-in (led (searched-at (c .before .before .before .before)))
 
 slice-aggregate-commit-pair : tie.Need-slice-aggregate-commit-pair
 slice-aggregate-commit-pair c =
-    sym (length-take-le _ _ (lead-in (c .before .before .before .before .before .before .before .before .before .before .before .before .before .before .before .before .before .before)))
+    sym (length-take-le _ _ (lead-in (led (searched-at (c .before .before .before .before .before)))))
 
 commit-pair-requires : tie.Need-commit-pair-requires
 commit-pair-requires c κs =
-    let x = c .before .before .before .before in
+    let x = c .before .before .before .before .before in
     let o = sought (x .before .before) in
-    let m = led (o .before .before) in
+    let h = hash-of (o .before .before) in
+    let m = before-hash h in
     let z = entered (numbered m) in
     let a = z .args in
     let L = z .pre .0 .0 in (
       (record { ranged = L .ranged; pages-fit = L .pages-fit; lists-fit = L .lists-fit; kinded = L .kinded }, z .pre .0 .1, z .pre .1 .range, free o .range),
-      subst (λ y. PairPlanFits (a .s) (numbered m .h .given .0 .0) (length (a .head .now)) (length y) (x .x .given .0 .0)) (sym (lead-rest m)) (ready x .bounded),
+      (
+        subst (λ y. PairPlanFits (a .s) (numbered m .f .given .0 .0) (length (a .head .now)) (length y) (x .x .given .0 .0)) (sym (lead-rest m)) (ready x .bounded),
+        (c .before .fnv2 .ensures, hashed h ∙ ap fnvOf (raw-key (take (m .m .given .0 .0) (m .before .before .before .write-frequent-id .last .1 .0)) (a .rest .now))),
+      ),
     )
 
 enum-known-why : tie.Need-enum-known-why
@@ -248,13 +288,13 @@ same-length-6 c = search needs
 returns-4 : tie.Need-returns-4
 returns-4 c =
     let e = c .before .before .before .before in
-    let x = e .before .before .before .before .before in
+    let x = e .before .before .before .before .before .before in
     let o = sought (x .before .before) in
     let m = led (o .before .before) in
-    let h = numbered m in
-    let z = entered h in
+    let f = numbered m in
+    let z = entered f in
     let a = z .args in
-    both-calls (a .s) (a .pages .now) (a .lists .now) (a .k) (a .head .now) (a .rest .now) (z .pre .0 .0) (z .pre .0 .1) (a .headplace) (z .pre .1) _ (counted h) _ _ _ _ _ _ (ready x) (free o)
+    both-calls (a .s) (a .pages .now) (a .lists .now) (a .k) (a .head .now) (a .rest .now) (z .pre .0 .0) (z .pre .0 .1) (a .headplace) (z .pre .1) _ (counted f) _ _ _ _ _ _ (ready x) (free o)
     (lead-rest m)
     (e .commit-pair .ensures .0)
     (e .commit-pair .ensures .1 .0)
@@ -269,11 +309,11 @@ same-length-8 c = search needs
 returns-5 : tie.Need-returns-5
 returns-5 c =
     let l = c .before .before .before in
-    let h = numbered (led (sought l .before .before)) in
-    let z = entered h in
+    let f = numbered (led (sought l .before .before)) in
+    let z = entered f in
     let a = z .args in
-    both-refused (a .s) (a .pages .now) (a .lists .now) (a .k) (a .head .now) (a .rest .now) (z .pre .0 .0) (z .pre .0 .1) (a .headplace) (z .pre .1) _ (counted h) _
-    (subst (PlansPair (a .s) (a .lists .now) (a .k) (h .h .given .0 .0) (length (a .head .now)) (length (fid (h .h .given .0 .0) ++ a .rest .now))) (c .before .why .given .1) (planned l))
+    both-refused (a .s) (a .pages .now) (a .lists .now) (a .k) (a .head .now) (a .rest .now) (z .pre .0 .0) (z .pre .0 .1) (a .headplace) (z .pre .1) _ (counted f) _
+    (subst (PlansPair (a .s) (a .lists .now) (a .k) (f .f .given .0 .0) (length (a .head .now)) (length (fid (f .f .given .0 .0) ++ a .rest .now))) (c .before .why .given .1) (planned l))
 
 pub add-both-spec : {M : Type 1} → statement M
 add-both-spec =
@@ -281,7 +321,7 @@ add-both-spec =
     (tie.spec
     head-dictionary-requires
     count-requires
-    enum-known-h
+    enum-known-f
     enum-told
     same-length
     returns
@@ -291,8 +331,12 @@ add-both-spec =
     enum-told-2
     same-length-2
     returns-2
-    main-dictionary-requires
     array-share-prefix-lead
+    slice-aggregate-fnv
+    fnv-requires
+    fnv-from-requires
+    main-dictionary-requires
+    array-share-prefix-lead-2
     slice-aggregate-bytes-to-id
     slice-aggregate-bytes-to-id-2
     bytes-to-id-requires
@@ -303,7 +347,8 @@ add-both-spec =
     add-plan-pair
     plan-pair-requires
     enum-known-x
-    array-share-prefix-lead-2
+    fnv-requires-2
+    array-share-prefix-lead-3
     slice-aggregate-commit-pair
     commit-pair-requires
     enum-known-why

@@ -7,6 +7,7 @@ use lib.ListN.{length, take, length-append}
 use lib.Seq.{length-take-le}
 use Rattle.slices.specs.Bytes.{Bytes}
 use Rattle.limits.specs.Limits.{nameLimit}
+use Rattle.fnv.specs.Fnv.{fnvOf}
 use Rattle.parts.specs.declared.Mode.the-variants.{Raw}
 use Rattle.ranked_pair_dictionary.specs.FrequentId.{fid}
 use Rattle.bytes_index.specs.Search.{keyOf, Searched}
@@ -14,7 +15,7 @@ use Rattle.bytes_index.specs.declared.Probe.the-variants.{At}
 use Rattle.model.specs.Kinds.{row}
 use Rattle.enter.specs.Answers.{addedBy}
 use Rattle.enter.specs.Added.{Added, HasKey}
-use Rattle.search.proofs.Leads.{lead-short, lead-length, never-refused, lead-key}
+use Rattle.search.proofs.Leads.{raw-hash, lead-short, lead-length, never-refused, lead-key}
 use Rattle.enter_pair.proofs.Adds.{pair-known, pair-foreign}
 use borrow.Author.Needs.{needs}
 use Rattle.enter_pair.proofs.add_pair.Statement.{statement}
@@ -68,6 +69,15 @@ key-short c =
     let z = entered f in
     subst (λ x. length x ≤ 8192) (sym (key-at c)) (omega (arith, length-append (fid (f .f .given .0 .0)) (z .args .rest .now), lead-short (f .f .given .0 .0), z .pre .2))
 
+-- Its hash.
+abbrev led : tie.After-fnv-from → tie.After-m
+led c = c .before .before .before .before
+
+hashed : (c : tie.After-fnv-from) →
+    let m = led c in
+    c .fnv-from .result ≡ fnvOf (keyOf (take (m .m .given .0 .0) (m .before .before .before .write-frequent-id .last .1 .0)) Raw [] (entered (numbered m) .args .rest .now))
+hashed c = raw-hash _ _ _ _ (c .before .fnv .ensures) (c .fnv-from .ensures)
+
 find-head-requires : tie.Need-find-head-requires
 find-head-requires c κs = search needs
 
@@ -100,20 +110,35 @@ returns c =
 
 array-share-prefix-lead : tie.Need-array-share-prefix-lead
 array-share-prefix-lead c =
-    lead-in (c .before .before .before)
+    lead-in (c .before)
+
+slice-aggregate-fnv : tie.Need-slice-aggregate-fnv
+slice-aggregate-fnv c =
+    sym (length-take-le _ _ (lead-in (c .before .before)))
+
+fnv-requires : tie.Need-fnv-requires
+fnv-requires c κs = search needs
+
+fnv-from-requires : tie.Need-fnv-from-requires
+fnv-from-requires c κs = search needs
+
+array-share-prefix-lead-2 : tie.Need-array-share-prefix-lead-2
+array-share-prefix-lead-2 c =
+    lead-in (led (c .before .before))
 
 slice-aggregate-add-str : tie.Need-slice-aggregate-add-str
 slice-aggregate-add-str c =
-    sym (length-take-le _ _ (lead-in (c .before .before .before .before)))
+    sym (length-take-le _ _ (lead-in (led (c .before .before .before))))
 
 slice-aggregate-add-str-2 : tie.Need-slice-aggregate-add-str-2
 slice-aggregate-add-str-2 c = search needs
 
 add-str-requires : tie.Need-add-str-requires
 add-str-requires c κs =
-    let m = c .before .before .before .before .before in
+    let h = c .before .before .before .before in
+    let m = led h in
     let L = entered (numbered m) .pre .0 in
-    (record { ranged = L .ranged; pages-fit = L .pages-fit; lists-fit = L .lists-fit; kinded = L .kinded }, key-short m)
+    (record { ranged = L .ranged; pages-fit = L .pages-fit; lists-fit = L .lists-fit; kinded = L .kinded }, (key-short m, hashed h))
 
 enum-known-headplace : tie.Need-enum-known-headplace
 enum-known-headplace c = search needs
@@ -140,7 +165,7 @@ same-length-4 c = search needs
 returns-2 : tie.Need-returns-2
 returns-2 c =
     let e = c .before .before .before .before in
-    let m = e .before .before .before .before .before .before in
+    let m = led (e .before .before .before .before .before) in
     let f = numbered m in
     let z = entered f in
     let a = z .args in
@@ -184,6 +209,10 @@ add-pair-spec =
     same-length-2
     returns
     array-share-prefix-lead
+    slice-aggregate-fnv
+    fnv-requires
+    fnv-from-requires
+    array-share-prefix-lead-2
     slice-aggregate-add-str
     slice-aggregate-add-str-2
     add-str-requires

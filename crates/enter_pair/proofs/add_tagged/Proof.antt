@@ -35,21 +35,32 @@ part-short Closed s = omega (arith, length-escaped s, length-append (escaped s) 
 tag-front-requires : tie.Need-tag-front-requires
 tag-front-requires c κs = search needs
 
-slice-aggregate-add-str : tie.Need-slice-aggregate-add-str
-slice-aggregate-add-str c = search needs
-
 tag-mode-requires : tie.Need-tag-mode-requires
 tag-mode-requires c κs = search needs
+
+slice-aggregate-hash : tie.Need-slice-aggregate-hash
+slice-aggregate-hash c = search needs
+
+hash-requires : tie.Need-hash-requires
+hash-requires c κs = search needs
+
+slice-aggregate-add-str : tie.Need-slice-aggregate-add-str
+slice-aggregate-add-str c = search needs
 
 -- The length alone does not tell the tag from the text.
 add-str-requires : tie.Need-add-str-requires
 unfolding nameLimit
 add-str-requires c κs =
-    let z = c .before .before .before .before .before .before .before .before .before in
+    let h = c .before .before .before in
+    let t = h .before .before in
+    let z = t .before .before .before .before .before .before in
     let L = z .pre .0 in
-    let m = c .tag-mode .result in (
+    let m = t .tag-mode .result in (
       record { ranged = L .ranged; pages-fit = L .pages-fit; lists-fit = L .lists-fit; kinded = L .kinded },
-      simp length-append (omega (arith, part-short m (z .args .tag .now), part-short m (z .args .text .now), z .pre .1)),
+      (
+        simp length-append (omega (arith, part-short m (z .args .tag .now), part-short m (z .args .text .now), z .pre .1)),
+        h .hash .ensures,
+      ),
     )
 
 same-length : tie.Need-same-length
@@ -61,9 +72,10 @@ same-length-2 c = search needs
 returns : tie.Need-returns
 returns c =
     let e = c .before .before .before .before in
-    let m = e .before .tag-mode in
-    let f = e .before .before .before .before .before .tag-front in
-    let a = e .before .before .before .before .before .before .before .before .before .before .args in
+    let t = e .before .before .before .before .before .before in
+    let m = t .tag-mode in
+    let f = t .before .tag-front in
+    let a = t .before .before .before .before .before .before .args in
     same-names (a .s) (a .pages .now) (a .lists .now) _ _ _ _ _
     (λ st x S legal t. is-tagged (a .text .now) (a .tag .now) (f .result) (m .result) (f .ensures) (m .ensures) st x t)
     (e .add-str .ensures)
@@ -73,8 +85,10 @@ add-tagged-spec =
     tie.close
     (tie.spec
     tag-front-requires
-    slice-aggregate-add-str
     tag-mode-requires
+    slice-aggregate-hash
+    hash-requires
+    slice-aggregate-add-str
     add-str-requires
     same-length
     same-length-2

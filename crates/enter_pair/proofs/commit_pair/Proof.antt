@@ -1,7 +1,8 @@
 -- The calls' writes one after the other. Assumes nothing.
-use mathlib.Core.Path.{sym, ap, subst}
+use mathlib.Core.Path.{sym, ap, subst, _∙_}
 use native.Mathlib.Omega.{arith}
 use lib.ListN.{length}
+use Rattle.fnv.specs.Fnv.{fnvOf}
 use Rattle.parts.specs.Parts.{bytesOf}
 use Rattle.bytes_dictionary.specs.Written.{HasRoom}
 use Rattle.meta_dv_dict.specs.declared.GlobalId.{GlobalId}
@@ -35,8 +36,8 @@ unfolding bytesOf
 insert-requires c κs =
     let z = c .before .before .before .before .before .before .before .before .before .before in
     let L = z .pre .0 .0 in
-    let F = z .pre .1 in
-    ((record { ranged = L .ranged; pages-fit = L .pages-fit; lists-fit = L .lists-fit; known = c .before .before .before .head-dictionary .ensures .1 }, F .heads, z .pre .0 .2), F .head-room)
+    let F = z .pre .1 .0 in
+    ((record { ranged = L .ranged; pages-fit = L .pages-fit; lists-fit = L .lists-fit; known = c .before .before .before .head-dictionary .ensures .1 }, F .heads, z .pre .0 .2), (F .head-room, z .pre .1 .1 .0))
 
 insert-requires-2 : tie.Need-insert-requires-2
 insert-requires-2 c κs =
@@ -44,7 +45,7 @@ insert-requires-2 c κs =
     let z = entered i in
     let a = z .args in
     let L = z .pre .0 .0 in
-    let F = z .pre .1 in (
+    let F = z .pre .1 .0 in (
       (
         record {
           ranged = L .ranged;
@@ -55,7 +56,10 @@ insert-requires-2 c κs =
         F .number,
         z .pre .0 .3,
       ),
-      subst (λ key. HasRoom (a .s) (length key) (a .x .pair)) (sym (raw-key (a .lead .now) (a .rest .now))) (F .room),
+      (
+        subst (λ key. HasRoom (a .s) (length key) (a .x .pair)) (sym (raw-key (a .lead .now) (a .rest .now))) (F .room),
+        z .pre .1 .1 .1 ∙ ap fnvOf (sym (raw-key (a .lead .now) (a .rest .now))),
+      ),
     )
 
 take-block-requires : tie.Need-take-block-requires
@@ -64,13 +68,13 @@ take-block-requires c κs =
     let i = first (j .before) in
     let z = entered i in
     let L = z .pre .0 .0 in
-    let F = z .pre .1 in
+    let F = z .pre .1 .0 in
     (L .ranged, omega (arith, L .lists-fit, i .insert .kept, j .insert2 .kept), L .kinded, F .local, F .block)
 
 number-in-requires : tie.Need-number-in-requires
 number-in-requires c κs =
     let z = entered (first (second (c .before .before .before) .before)) in
-    (z .pre .0 .0 .ranged, z .pre .1 .block)
+    (z .pre .0 .0 .ranged, z .pre .1 .0 .block)
 
 same-length : tie.Need-same-length
 same-length c = search needs
@@ -88,7 +92,7 @@ returns c =
       ap (λ (y : GlobalId). AddAnswer.fresh (y .0)) (c .number-in .ensures),
       (
         both-pages (a .s) (a .pages .now) (a .x) (a .head .now) (a .lead .now) (a .rest .now) _ _ (i .insert .ensures .0) (j .insert2 .ensures .0),
-        both-lists (a .s) (a .lists .now) (a .k) (a .h) (a .headplace) (a .place) (a .x) (a .head .now) (a .lead .now) (a .rest .now) _ _ _ _ _
+        both-lists (a .s) (a .lists .now) (a .k) (a .f) (a .headplace) (a .place) (a .x) (a .head .now) (a .lead .now) (a .rest .now) _ _ _ _ _
             (i .before .before .before .before .head-dictionary .ensures .0) (i .before .before .before .main-dictionary .ensures .0)
             (i .insert .ensures .1) (j .insert2 .ensures .1) (t .take-block .ensures),
       ),

@@ -39,7 +39,7 @@ entered c = counts-at c .before .before .before .before .before
 
 read : (c : tie.After-untaken2) →
     let a = entered c .args in
-    Counts (a .s) (a .lists .now) (a .k) (a .h) (counts-at c .n .given .0 .0) (c .untaken2 .given .0 .0)
+    Counts (a .s) (a .lists .now) (a .k) (a .f) (counts-at c .n .given .0 .0) (c .untaken2 .given .0 .0)
 read c =
     let o = c .before .before .before in
     record {
@@ -111,7 +111,7 @@ returns c =
     let f = c .before .before in
     let z = f .before .before .before in
     let a = z .args in
-    plans-uncounted (a .s) (a .lists .now) (a .k) (a .h) (a .size) (a .len) (z .pre .0 .2)
+    plans-uncounted (a .s) (a .lists .now) (a .k) (a .f) (a .size) (a .len) (z .pre .0 .2)
     (counted-main (a .s) (a .lists .now) (a .k) _ _ _ (f .before .main-dictionary .ensures .0) (f .count .ensures) (c .enum-told .given .1))
 
 returns-2 : tie.Need-returns-2

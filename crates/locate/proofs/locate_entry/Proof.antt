@@ -2,7 +2,7 @@
 use Prim.Native.Nat.{ℕ}
 use mathlib.Core.Path.{sym, subst}
 use Rattle.locate.specs.Located.{LocatesEntry}
-use Rattle.locate.proofs.Numbers.{paired}
+use Rattle.names.proofs.Rows.{paired}
 use borrow.Author.Needs.{needs}
 use Rattle.locate.proofs.locate_entry.Statement.{statement}
 use Rattle.locate.proofs.locate_entry.Tie as tie

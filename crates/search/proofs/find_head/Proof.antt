@@ -1,6 +1,7 @@
 -- The search in the kind's dictionary of heads. Assumes nothing.
 use mathlib.Core.Path.{refl}
 use borrow.Author.Needs.{needs}
+use Rattle.search.proofs.Leads.{whole-hash}
 use Rattle.search.proofs.Finds.{at-raw}
 use Rattle.search.proofs.find_head.Statement.{statement}
 use Rattle.search.proofs.find_head.Tie as tie
@@ -11,12 +12,15 @@ slice-aggregate-none c = search needs
 head-dictionary-requires : tie.Need-head-dictionary-requires
 head-dictionary-requires c κs = search needs
 
+fnv-requires : tie.Need-fnv-requires
+fnv-requires c κs = search needs
+
 bytes-to-id-requires : tie.Need-bytes-to-id-requires
-bytes-to-id-requires c κs = search needs
+bytes-to-id-requires c κs = let e = whole-hash _ (c .fnv .result) (c .fnv .ensures) in search needs
 
 returns : tie.Need-returns
-returns c = at-raw _ _ _ _ _ _ _ _ (c .before .head-dictionary .ensures .0) refl (c .bytes-to-id .ensures)
+returns c = at-raw _ _ _ _ _ _ _ _ (c .before .before .head-dictionary .ensures .0) refl (c .bytes-to-id .ensures)
 
 pub find-head-spec : {M : Type 1} → statement M
 find-head-spec =
-    tie.close (tie.spec slice-aggregate-none head-dictionary-requires bytes-to-id-requires returns)
+    tie.close (tie.spec slice-aggregate-none head-dictionary-requires fnv-requires bytes-to-id-requires returns)

@@ -31,7 +31,7 @@ returns c =
     let a = z .args in
     let d = b .before .main-dictionary in
     let key = keyOf (a .prefix .now) (a .mode) (a .tag .now) (a .rest .now) in
-    key-at (a .s) (a .pages .now) (a .lists .now) (a .k) (d .result) key (z .pre .kinded) (d .ensures .0) (c .before .before .i .given .0 .0)
+    key-at (a .s) (a .pages .now) (a .lists .now) (a .k) (d .result) key (z .pre .0 .kinded) (d .ensures .0) (c .before .before .i .given .0 .0)
     (c .entry-to-local .result) (c .entry-to-local .ensures)
     (subst (Searched (a .s) (d .result) (a .pages .now) (a .lists .now) key) (c .before .before .i .given .1) (b .bytes-to-id .ensures))
 
@@ -42,7 +42,7 @@ returns-2 c =
     let a = z .args in
     let d = b .before .main-dictionary in
     let key = keyOf (a .prefix .now) (a .mode) (a .tag .now) (a .rest .now) in
-    key-free (a .s) (a .pages .now) (a .lists .now) (a .k) (d .result) key (z .pre .kinded) (d .ensures .0) _
+    key-free (a .s) (a .pages .now) (a .lists .now) (a .k) (d .result) key (z .pre .0 .kinded) (d .ensures .0) _
     (subst (Searched (a .s) (d .result) (a .pages .now) (a .lists .now) key) (c .enum-told .given .1) (b .bytes-to-id .ensures))
 
 returns-3 : tie.Need-returns-3
@@ -52,7 +52,7 @@ returns-3 c =
     let a = z .args in
     let d = b .before .main-dictionary in
     let key = keyOf (a .prefix .now) (a .mode) (a .tag .now) (a .rest .now) in
-    key-bad (a .s) (a .pages .now) (a .lists .now) (a .k) (d .result) key (z .pre .kinded) (d .ensures .0)
+    key-bad (a .s) (a .pages .now) (a .lists .now) (a .k) (d .result) key (z .pre .0 .kinded) (d .ensures .0)
     (subst (Searched (a .s) (d .result) (a .pages .now) (a .lists .now) key) (c .enum-told2 .given .1) (b .bytes-to-id .ensures))
 
 pub find-key-spec : {M : Type 1} → statement M

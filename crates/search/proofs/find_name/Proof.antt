@@ -1,98 +1,99 @@
 -- Each kind's own search finds its legal names. Assumes nothing.
 use Prim.Native.Nat.{ℕ}
-use mathlib.Core.Path.{_≡_, refl, sym, ap, _∙_}
+use mathlib.Core.Path.{_≡_, refl, sym, _∙_}
 use mathlib.Core.Bool.{true}
 use mathlib.Core.List.{[]}
-use mathlib.Core.Option.{none}
-use native.Mathlib.Omega.{arith}
 use borrow.Author.Needs.{needs}
+use lib.Seq.{length-take-le}
 use Rattle.slices.specs.Bytes.{Bytes}
-use Rattle.layout.specs.declared.Sizes.{Sizes}
 use Rattle.parts.specs.declared.Mode.the-variants.{Raw}
 use Rattle.parts.specs.Parts.{bytesOf}
 use Rattle.bytes_index.specs.Search.{keyOf}
 use Rattle.model.specs.Names.{Name, entered}
 use Rattle.model.specs.Kinds.{row}
-use Rattle.model.specs.Steps.{checks}
-use Rattle.model.proofs.Legal.{legal}
-use Rattle.search.specs.Found.{IsPair}
+use Rattle.names.proofs.Rows.{paired}
+use Rattle.names.proofs.Pairs.{is-pair}
+use Rattle.search.proofs.Leads.{whole-hash}
 use Rattle.search.proofs.Finds.{same-names, by-key}
 use Rattle.search.proofs.find_name.Statement.{statement}
 use Rattle.search.proofs.find_name.Tie as tie
 
--- What the arguments of a legal name of each kind stand for.
-module _ (s : Sizes) (k : ℕ) (first second : Bytes) (a : Name) (e : checks s a ≡ none) (m : a ≡ entered k first second) where
-  no-second : row k .noSecond ≡ true → second ≡ []
-  no-second n = sym (ap (λ (x : Name). x .second) m) ∙ legal s a e .second (rw m n)
-
-  is-iri : k ≡ 0 → a ≡ entered 0 first []
-  is-iri z =
-      let n : second ≡ [] = no-second (rw z) in
-      m ∙ rw (z, n)
-
-  is-plain : k ≡ 1 → (a .kind ≡ 1) × (row 1 .rest a ≡ keyOf second Raw second first)
+-- What the arguments of a string stand for.
+module _ (k : ℕ) (first second : Bytes) (a : Name) (m : a ≡ entered k first second) where
+  is-plain : k ≡ 1 → (a .kind ≡ 1) × (row 1 .rest a ≡ keyOf [] Raw [] first)
   unfolding bytesOf
-  is-plain z =
-      let n : second ≡ [] = no-second (rw z) in
-      rw (m, z, n) (refl, refl)
+  is-plain z = rw (m, z) (refl, refl)
 
   is-tagged : k ≡ 2 → a ≡ entered 2 first second
   is-tagged z = m ∙ rw z
 
-  is-typed : k ≡ 3 → IsPair 3 first second a
-  is-typed z = rw (m, z) (record { kinded = refl; headed = refl; rested = refl })
+-- Neither of the two kinds of strings: there are heads.
+has-heads : (c : tie.Else2) → row (c .before .before .before .before .before .before .args .kind) .paired ≡ true
+has-heads c =
+    let z = c .before .before .before .before .before .before in
+    paired (z .args .kind) (z .pre .kinded) (c .before .if1 .left) (c .if2 .left)
 
-find-iri-requires : tie.Need-find-iri-requires
-find-iri-requires c κs = search needs
+slice-aggregate-none : tie.Need-slice-aggregate-none
+slice-aggregate-none c = search needs
+
+fnv-requires : tie.Need-fnv-requires
+fnv-requires c κs = search needs
+
+find-key-requires : tie.Need-find-key-requires
+find-key-requires c κs = let e = whole-hash _ (c .fnv .result) (c .fnv .ensures) in search needs
 
 returns : tie.Need-returns
 returns c =
-    let a = c .before .before .before .before .before .before .args in
-    same-names (a .s) (a .pages .now) (a .lists .now) _ _ (c .find-iri .result)
-    (λ x e m. is-iri (a .s) (a .kind) (a .first .now) (a .second .now) x e m (c .before .if1 .taken))
-    (c .find-iri .ensures)
-
-find-key-requires : tie.Need-find-key-requires
-find-key-requires c κs = search needs
-
-returns-2 : tie.Need-returns-2
-returns-2 c =
-    let a = c .before .before .before .before .before .before .before .args in
+    let t = c .before .before .before in
+    let a = t .before .before .before .before .before .args in
     by-key (a .s) (a .pages .now) (a .lists .now) _ 1 _ (c .find-key .result) refl
-    (λ x e m. is-plain (a .s) (a .kind) (a .first .now) (a .second .now) x e m (c .before .if2 .taken))
+    (λ x e m. is-plain (a .kind) (a .first .now) (a .second .now) x m (t .if1 .taken))
     (c .find-key .ensures)
 
 find-tagged-requires : tie.Need-find-tagged-requires
 find-tagged-requires c κs = search needs
 
-returns-3 : tie.Need-returns-3
-returns-3 c =
-    let a = c .before .before .before .before .before .before .before .before .args in
+returns-2 : tie.Need-returns-2
+returns-2 c =
+    let a = c .before .before .before .before .before .before .before .args in
     same-names (a .s) (a .pages .now) (a .lists .now) _ _ (c .find-tagged .result)
-    (λ x e m. is-tagged (a .s) (a .kind) (a .first .now) (a .second .now) x e m (c .before .if3 .taken))
+    (λ x e m. is-tagged (a .kind) (a .first .now) (a .second .now) x m (c .before .if2 .taken))
     (c .find-tagged .ensures)
 
-find-pair-requires : tie.Need-find-pair-requires
-find-pair-requires c κs = search needs
+head-length-requires : tie.Need-head-length-requires
+head-length-requires c κs = search needs
 
-returns-4 : tie.Need-returns-4
-returns-4 c =
-    let z = c .before .before .before .before .before .before .before .before in
+rest-behind-requires : tie.Need-rest-behind-requires
+rest-behind-requires c κs = c .head-length .ensures .1
+
+slice-aggregate-find-pair : tie.Need-slice-aggregate-find-pair
+slice-aggregate-find-pair c = sym (length-take-le _ _ (c .before .before .head-length .ensures .1))
+
+find-pair-requires : tie.Need-find-pair-requires
+find-pair-requires c κs = let p = has-heads (c .before .before .before) in search needs
+
+returns-3 : tie.Need-returns-3
+returns-3 c =
+    let r = c .before .before in
+    let n = r .before in
+    let z = n .before .before .before .before .before .before .before in
     let a = z .args in
-    let three : a .kind ≡ 3 = omega (arith, z .pre .kinded, c .before .if3 .left, c .before .before .if2 .left, c .before .before .before .if1 .left) in
     same-names (a .s) (a .pages .now) (a .lists .now) _ _ (c .find-pair .result)
-    (λ x e m. is-typed (a .s) (a .kind) (a .first .now) (a .second .now) x e m three)
+    (λ x e m. is-pair (a .kind) (a .first .now) (a .second .now) _ (n .head-length .result) (z .pre .kinded) (has-heads (n .before)) (n .head-length .ensures .0) (r .rest-behind .ensures) x m)
     (c .find-pair .ensures)
 
 pub find-name-spec : {M : Type 1} → statement M
 find-name-spec =
     tie.close
     (tie.spec
-    find-iri-requires
-    returns
+    slice-aggregate-none
+    fnv-requires
     find-key-requires
-    returns-2
+    returns
     find-tagged-requires
-    returns-3
+    returns-2
+    head-length-requires
+    rest-behind-requires
+    slice-aggregate-find-pair
     find-pair-requires
-    returns-4)
+    returns-3)

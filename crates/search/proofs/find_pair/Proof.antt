@@ -11,7 +11,7 @@ use Rattle.bytes_index.specs.declared.Probe.the-variants.{At}
 use Rattle.bytes_index.specs.Search.{Searched}
 use Rattle.ranked_pair_dictionary.specs.FrequentId.{fid}
 use Rattle.model.specs.Kinds.{row}
-use Rattle.search.proofs.Leads.{lead-short, lead-length, never-refused, lead-key}
+use Rattle.search.proofs.Leads.{raw-hash, lead-short, lead-length, never-refused, lead-key}
 use Rattle.search.proofs.Finds.{pair-at, pair-free, pair-bad}
 use Rattle.search.proofs.find_pair.Statement.{statement}
 use Rattle.search.proofs.find_pair.Tie as tie
@@ -68,14 +68,30 @@ array-share-prefix-lead c =
     let w = c .before .before .before .before in
     omega (arith, length-n (c .before), lead-short (w .before .before .before .f .given .0 .0), w .write-frequent-id .kept)
 
+slice-aggregate-fnv : tie.Need-slice-aggregate-fnv
+slice-aggregate-fnv c = sym (length-take-le _ _ (array-share-prefix-lead (c .before)))
+
+fnv-requires : tie.Need-fnv-requires
+fnv-requires c κs = search needs
+
+fnv-from-requires : tie.Need-fnv-from-requires
+fnv-from-requires c κs = search needs
+
+array-share-prefix-lead-2 : tie.Need-array-share-prefix-lead-2
+array-share-prefix-lead-2 c = array-share-prefix-lead (c .before .before .before)
+
 slice-aggregate-find-key : tie.Need-slice-aggregate-find-key
-slice-aggregate-find-key c = sym (length-take-le _ _ (array-share-prefix-lead (c .before)))
+slice-aggregate-find-key c = sym (length-take-le _ _ (array-share-prefix-lead-2 (c .before)))
 
 slice-aggregate-find-key-2 : tie.Need-slice-aggregate-find-key-2
 slice-aggregate-find-key-2 c = search needs
 
 find-key-requires : tie.Need-find-key-requires
-find-key-requires c κs = search needs
+find-key-requires c κs =
+    let g = c .before .before in
+    let f = g .before .before .before .before .before .before .before .before .before .before in
+    let z = f .before .before .before .before .before .before .before in
+    (z .pre .0, raw-hash _ _ (g .before .fnv .result) (g .fnv-from .result) (g .before .fnv .ensures) (g .fnv-from .ensures))
 
 enum-told-2 : tie.Need-enum-told-2
 enum-told-2 c = search needs
@@ -85,7 +101,7 @@ enum-told-3 c = search needs
 
 returns-2 : tie.Need-returns-2
 returns-2 c =
-    let t = c .before .before .before .before in
+    let t = c .before .before .before .before .before .before .before in
     let w = t .before .before .before in
     let f = w .before .before .before in
     let z = f .before .before .before .before .before .before .before in
@@ -120,6 +136,10 @@ find-pair-spec =
     enum-told
     returns
     array-share-prefix-lead
+    slice-aggregate-fnv
+    fnv-requires
+    fnv-from-requires
+    array-share-prefix-lead-2
     slice-aggregate-find-key
     slice-aggregate-find-key-2
     find-key-requires

@@ -21,20 +21,26 @@ is-tagged text tag front mode p q x m = rw (m, p, q) (refl, packed-key text tag)
 tag-front-requires : tie.Need-tag-front-requires
 tag-front-requires c κs = search needs
 
-slice-aggregate-find-key : tie.Need-slice-aggregate-find-key
-slice-aggregate-find-key c = search needs
-
 tag-mode-requires : tie.Need-tag-mode-requires
 tag-mode-requires c κs = search needs
+
+slice-aggregate-hash : tie.Need-slice-aggregate-hash
+slice-aggregate-hash c = search needs
+
+hash-requires : tie.Need-hash-requires
+hash-requires c κs = search needs
+
+slice-aggregate-find-key : tie.Need-slice-aggregate-find-key
+slice-aggregate-find-key c = search needs
 
 find-key-requires : tie.Need-find-key-requires
 find-key-requires c κs = search needs
 
 returns : tie.Need-returns
 returns c =
-    let a = c .before .before .before .before .before .before .before .before .args in
-    let f = c .before .before .before .tag-front in
-    let m = c .before .tag-mode in
+    let a = c .before .before .before .before .before .before .before .before .before .before .args in
+    let f = c .before .before .before .before .before .tag-front in
+    let m = c .before .before .before .before .tag-mode in
     by-key (a .s) (a .pages .now) (a .lists .now) _ 2 _ (c .find-key .result) refl
     (λ x legal e. is-tagged (a .text .now) (a .tag .now) (f .result) (m .result) (f .ensures) (m .ensures) x e)
     (c .find-key .ensures)
@@ -44,7 +50,9 @@ find-tagged-spec =
     tie.close
     (tie.spec
     tag-front-requires
-    slice-aggregate-find-key
     tag-mode-requires
+    slice-aggregate-hash
+    hash-requires
+    slice-aggregate-find-key
     find-key-requires
     returns)
