@@ -1,6 +1,7 @@
 //! Measures the library, the original, HashMap with a Vec, the bare search and the hash alone on the same names.
 //! Commands: time ROUNDS; alone ROUNDS, the library without the others between; count, under callgrind; counts, which prints the counts given
 //! as lines "contender operation kind count".
+mod bare;
 mod books;
 mod counts;
 mod names;
@@ -13,7 +14,8 @@ mod random;
 mod seats;
 mod table;
 
-use books::{Bare, Library, MapAndVec, Original, OriginalFold};
+use bare::Bare;
+use books::{Library, MapAndVec, Original, OriginalFold};
 use names::{Input, KINDS};
 use seats::{Contender, HashAlone, HashInTurn, Seat, OPERATIONS};
 use std::time::Instant;
