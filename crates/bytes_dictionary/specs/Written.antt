@@ -11,6 +11,8 @@ use Rattle.layout.specs.Fields.{countAt, entryAt, orderAt, placeAt, entryWord, 
 use Rattle.bytes_buffer.specs.declared.Spot.{Spot}
 use Rattle.bytes_buffer.specs.declared.Spot.the-variants.{Current, Next, NoPage, Bad}
 use Rattle.bytes_buffer.specs.Spots.{extended, tookPage}
+use Rattle.bytes_dictionary.specs.declared.Room.{Room}
+use Rattle.bytes_dictionary.specs.declared.Room.the-variants.{At, Nothing}
 
 -- The words of entry number n, whose key has the hash h: where it lies, its stamp, the index place that names it, and the count.
 unfoldable pub entryWritten : Sizes → Bytes → ℕ → ℕ → ℕ → ℕ → ℕ → ℕ → ℕ → ℕ → Bytes
@@ -36,6 +38,13 @@ listsAfter s lists d n place (Current page offset) stamp key =
 listsAfter s lists d n place (Next page) stamp key = tookPage (entryWritten s lists d n page 0 (length key) stamp place (fnvOf key)) d page (length key)
 listsAfter s lists d n place NoPage stamp key = lists
 listsAfter s lists d n place Bad stamp key = lists
+
+-- The page and the offset of a spot.
+abbrev pub roomOf : Spot → Room
+roomOf (Current page offset) = At page offset
+roomOf (Next page) = At page 0
+roomOf NoPage = Nothing
+roomOf Bad = Nothing
 
 -- A spot that has room for an entry of len bytes, as every plan's has.
 abbrev pub HasRoom : Sizes → ℕ → Spot → Type 0

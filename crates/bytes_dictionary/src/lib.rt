@@ -17,7 +17,7 @@ ghost use Rattle.fnv.specs.Fnv.{fnvOf};
 ghost use Rattle.layout.specs.Sizes.{InRange, dictionaries, pageSize, listBytes};
 ghost use Rattle.layout.specs.Fields.{countAt, entryWord, placeWord};
 ghost use Rattle.bytes_index.specs.Search.{keyOf, Fits};
-ghost use Rattle.bytes_dictionary.specs.Written.{entryWritten, pagesAfter, listsAfter, HasRoom};
+ghost use Rattle.bytes_dictionary.specs.Written.{entryWritten, pagesAfter, listsAfter, HasRoom, roomOf};
 ghost use Rattle.bytes_dictionary.specs.Reading.{countIn, Looked};
 
 // An entry's number in its dictionary.
@@ -137,6 +137,23 @@ fn write_at(
     len
 }
 
+// Where an entry's bytes go. Nothing: the spot is none.
+enum Room {
+    At { page: usize, offset: usize },
+    Nothing,
+}
+
+fn room_at(spot: Spot) -> Room
+    ensures { λ r. ⌜ r ≡ roomOf spot ⌝ }
+{
+    match spot {
+        Spot::Current { page, offset } => Room::At { page, offset },
+        Spot::Next(page) => Room::At { page, offset: 0 },
+        Spot::NoPage => Room::Nothing,
+        Spot::Bad => Room::Nothing,
+    }
+}
+
 // Writes a fresh key, whose hash is h, as entry number n where it was planned. It cannot fail; a plan without a spot has nothing written.
 pub fn insert(
     pages: &mut [u8],
@@ -166,15 +183,13 @@ pub fn insert(
         stamp,
         h,
     };
+    let Room::At { page, offset } = room_at(spot) else {
+        return;
+    };
+    let len = write_at(pages, lists, s, x, page, offset, prefix, mode, tag, rest);
     match spot {
-        Spot::Current { page, offset } => {
-            let len = write_at(pages, lists, s, x, page, offset, prefix, mode, tag, rest);
-            bytes_buffer::extend(lists, page, offset + len);
-        }
-        Spot::Next(page) => {
-            let len = write_at(pages, lists, s, x, page, 0, prefix, mode, tag, rest);
-            bytes_buffer::take_page(lists, d, page, len);
-        }
+        Spot::Current { page: _, offset: _ } => bytes_buffer::extend(lists, page, offset + len),
+        Spot::Next(_) => bytes_buffer::take_page(lists, d, page, len),
         Spot::NoPage => {}
         Spot::Bad => {}
     }

@@ -1,2 +1,3 @@
 -- Laws of the split.
 pub mod Laws
+pub mod Words

@@ -1,8 +1,10 @@
 -- Where an IRI is split: after its last '/' or '#'. Assumes nothing.
-use Prim.Native.Nat.{ℕ, zero, suc}
+use Prim.Native.Nat.{ℕ, zero, suc, _≤_, _<_}
+use mathlib.Core.Path.{_≡_}
 use mathlib.Core.Bool.{Bool, true, false, _||_}
 use mathlib.Core.List.{[], _∷_}
 use lib.Dec.{eqb}
+use lib.ListN.{getD}
 use Rattle.slices.specs.Bytes.{Bytes}
 use Rattle.ranked_pair_iri_dv_dict.specs.declared.Head.{Head}
 use Rattle.ranked_pair_iri_dv_dict.specs.declared.Head.the-variants.{Length, Nothing}
@@ -10,6 +12,10 @@ use Rattle.ranked_pair_iri_dv_dict.specs.declared.Head.the-variants.{Len
 -- '/' or '#'.
 abbrev pub isMark : ℕ → Bool
 isMark c = eqb c 47 || eqb c 35
+
+-- No byte from b on and before e is a mark.
+abbrev pub Unmarked : Bytes → ℕ → ℕ → Type 0
+Unmarked s b e = (i : ℕ) → b ≤ i → i < e → isMark (getD s i 0) ≡ false
 
 -- One byte more in front: a later mark stays the last one, and with none the byte itself may be it.
 abbrev pub afterMark : Bool → ℕ → ℕ

@@ -1,68 +1,75 @@
--- Each spot's stores, one after the other. Assumes nothing.
-use Prim.Native.Nat.{_+_, _≤_, _<_}
-use mathlib.Core.Path.{subst}
+-- The stores of the entry, then those of its page by the spot. Assumes nothing.
+use Prim.Native.Nat.{ℕ, _+_, _≤_, _<_}
+use mathlib.Core.Path.{_≡_, sym, subst, _∙_}
 use native.Mathlib.Omega.{arith}
 use lib.ListN.{length}
 use Rattle.layout.specs.Sizes.{pageSize, listBytes}
 use Rattle.layout.proofs.Ranges.{page-size}
 use Rattle.bytes_index.specs.Search.{keyOf}
-use Rattle.bytes_dictionary.specs.Written.{HasRoom}
-use Rattle.bytes_dictionary.proofs.Written.{after-current, after-next, after-none, after-bad}
+use Rattle.bytes_dictionary.specs.declared.Room.the-variants.{At}
+use Rattle.bytes_dictionary.specs.Written.{entryWritten, roomOf, IsSpot}
+use Rattle.bytes_dictionary.proofs.Written.{room-spot, room-fits, room-current, room-next, after-current, after-next, after-none}
 use borrow.Author.Needs.{needs}
 use Rattle.bytes_dictionary.proofs.insert.Statement.{statement}
 use Rattle.bytes_dictionary.proofs.insert.Tie as tie
 
--- What is required, said of the spot of each arm.
-current : (c : tie.After-spot) →
-    let a = c .before .before .before .before .before .before .before .args in
-    (c .spot .given .0 .0 < a .s .n) × (c .spot .given .0 .1 .0 + length (keyOf (a .prefix .now) (a .mode) (a .tag .now) (a .rest .now)) ≤ pageSize (a .s))
-current c =
-    let a = c .before .before .before .before .before .before .before .args in
-    subst (HasRoom (a .s) (length (keyOf (a .prefix .now) (a .mode) (a .tag .now) (a .rest .now)))) (c .spot .given .1) (c .before .before .before .before .before .before .before .pre .1 .0)
+-- The spot's page and offset, and that the key has room there.
+found : (c : tie.After-page) → roomOf (c .before .before .before .before .before .before .before .before .args .spot) ≡ At (c .page .given .0 .0) (c .page .given .0 .1 .0)
+found c = sym (c .before .before .room-at .ensures) ∙ c .page .given .1
 
-next : (c : tie.After-spot2) →
-    let a = c .before .before .before .before .before .before .before .args in
-    (c .spot2 .given .0 .0 < a .s .n) × (length (keyOf (a .prefix .now) (a .mode) (a .tag .now) (a .rest .now)) ≤ pageSize (a .s))
-next c =
-    let a = c .before .before .before .before .before .before .before .args in
-    subst (HasRoom (a .s) (length (keyOf (a .prefix .now) (a .mode) (a .tag .now) (a .rest .now)))) (c .spot2 .given .1) (c .before .before .before .before .before .before .before .pre .1 .0)
+fits : (c : tie.After-page) →
+    let a = c .before .before .before .before .before .before .before .before .args in
+    (c .page .given .0 .0 < a .s .n) × (c .page .given .0 .1 .0 + length (keyOf (a .prefix .now) (a .mode) (a .tag .now) (a .rest .now)) ≤ pageSize (a .s))
+fits c = let z = c .before .before .before .before .before .before .before .before in room-fits (z .args .s) _ (z .args .spot) _ _ (z .pre .1 .0) (found c)
 
-enum-known-spot : tie.Need-enum-known-spot
-enum-known-spot c = search needs
+room-at-requires : tie.Need-room-at-requires
+room-at-requires c κs = search needs
 
-write-at-requires : tie.Need-write-at-requires
-write-at-requires c κs = (c .before .before .before .before .before .before .before .before .before .before .pre .0, current (c .before .before .before))
-
-add-extend : tie.Need-add-extend
-add-extend c = omega (arith, current (c .before .before .before .before .before .before .before .before .before), c .before .before .before .before .before .write-at .ensures .0, page-size _ (c .before .before .before .before .before .before .before .before .before .before .before .before .before .before .before .before .pre .0 .0 .ranged))
-
-extend-requires : tie.Need-extend-requires
-unfolding listBytes
-extend-requires c κs =
-    let p = c .before .before .before .before .before .before .before .before .before .before .before .before .before .before .before .before .pre in
-    let r = current (c .before .before .before .before .before .before .before .before .before) in
-    let l = c .before .before .before .before .before .write-at .ensures .0 in
-    (omega (arith, r, p .0 .0 .lists-fit), omega (arith, r, l, page-size _ (p .0 .0 .ranged)))
-
-enum-known-spot-2 : tie.Need-enum-known-spot-2
-enum-known-spot-2 c = search needs
-
-write-at-requires-2 : tie.Need-write-at-requires-2
-write-at-requires-2 c κs = (c .before .before .before .before .before .before .before .before .before .before .pre .0, (next (c .before .before .before) .0, omega (arith, next (c .before .before .before))))
-
-take-page-requires : tie.Need-take-page-requires
-unfolding listBytes
-take-page-requires c κs =
-    let p = c .before .before .before .before .before .before .before .before .before .before .before .before .before .before .before .before .pre in
-    let r = next (c .before .before .before .before .before .before .before .before .before) in
-    let l = c .before .before .before .before .before .write-at2 .ensures .0 in
-    (omega (arith, r, p .0 .0 .lists-fit), p .0 .0 .known, omega (arith, r, l, page-size _ (p .0 .0 .ranged)))
+enum-known-page : tie.Need-enum-known-page
+enum-known-page c = search needs
 
 enum-told : tie.Need-enum-told
 enum-told c = search needs
 
+returns : tie.Need-returns
+returns c =
+    let a = c .before .before .before .before .before .before .before .before .args in
+    after-none (a .s) (a .pages .now) (a .lists .now) (a .d) (a .n) (a .place) (a .spot) (a .stamp) (keyOf (a .prefix .now) (a .mode) (a .tag .now) (a .rest .now))
+    (sym (c .before .before .room-at .ensures) ∙ c .enum-told .given .1)
+
+write-at-requires : tie.Need-write-at-requires
+write-at-requires c κs = (c .before .before .before .before .before .before .before .before .before .before .before .pre .0, fits (c .before .before .before))
+
 enum-told-2 : tie.Need-enum-told-2
 enum-told-2 c = search needs
+
+add-extend : tie.Need-add-extend
+add-extend c = omega (arith, fits (c .before .before .before .before .before .before .before .before .before .before .before), c .before .before .before .before .before .before .before .write-at .ensures .0, page-size _ (c .before .before .before .before .before .before .before .before .before .before .before .before .before .before .before .before .before .before .before .pre .0 .0 .ranged))
+
+extend-requires : tie.Need-extend-requires
+unfolding listBytes
+extend-requires c κs =
+    let p = c .before .before .before .before .before .before .before .before .before .before .before .before .before .before .before .before .before .before .before .pre in
+    let r = fits (c .before .before .before .before .before .before .before .before .before .before .before) in
+    let l = c .before .before .before .before .before .before .before .write-at .ensures .0 in
+    (omega (arith, r, p .0 .0 .lists-fit), omega (arith, r, l, page-size _ (p .0 .0 .ranged)))
+
+enum-told-3 : tie.Need-enum-told-3
+enum-told-3 c = search needs
+
+take-page-requires : tie.Need-take-page-requires
+unfolding listBytes
+take-page-requires c κs =
+    let p = c .before .before .before .before .before .before .before .before .before .before .before .before .before .before .before .before .before .before .before .pre in
+    let r = fits (c .before .before .before .before .before .before .before .before .before .before .before) in
+    let l = c .before .before .before .before .before .before .before .write-at .ensures .0 in
+    (omega (arith, r, p .0 .0 .lists-fit), p .0 .0 .known, omega (arith, r, l, page-size _ (p .0 .0 .ranged)))
+
+enum-told-4 : tie.Need-enum-told-4
+enum-told-4 c = search needs
+
+enum-told-5 : tie.Need-enum-told-5
+enum-told-5 c = search needs
 
 same-length : tie.Need-same-length
 same-length c = search needs
@@ -70,13 +77,15 @@ same-length c = search needs
 same-length-2 : tie.Need-same-length-2
 same-length-2 c = search needs
 
-returns : tie.Need-returns
-returns c =
-    let a = c .before .before .before .before .before .before .before .before .before .before .before .before .before .before .before .before .before .before .before .args in
-    let w = c .before .before .before .before .before .before .before .before .write-at in
+returns-2 : tie.Need-returns-2
+returns-2 c =
+    let g = c .before .before .before .before .before .before .before .before .before .before .before .before .before .before in
+    let a = g .before .before .before .before .before .before .before .before .args in
+    let w = c .before .before .before .before .before .before .before .before .before .before .write-at in
     after-current (a .s) (a .pages .now) (a .lists .now) (a .d) (a .n) (a .place) (a .spot) (a .stamp) (keyOf (a .prefix .now) (a .mode) (a .tag .now) (a .rest .now))
-    (c .before .before .before .before .before .before .before .before .before .before .before .before .spot .given .0 .0) (c .before .before .before .before .before .before .before .before .before .before .before .before .spot .given .0 .1 .0) (w .result) (a .h) _ _ _
-    (c .before .before .before .before .before .before .before .before .before .before .before .before .spot .given .1) (w .ensures .0) (c .before .before .before .before .before .before .before .before .before .before .before .before .before .before .before .before .before .before .before .pre .1 .1) (w .ensures .1 .0) (w .ensures .1 .1) (c .before .before .extend .ensures)
+    (g .page .given .0 .0) (g .page .given .0 .1 .0) (w .result) (a .h) _ _ _
+    (room-current (a .spot) _ _ _ _ (c .before .before .before .before .enum-told2 .given .1) (found g))
+    (w .ensures .0) (g .before .before .before .before .before .before .before .before .pre .1 .1) (w .ensures .1 .0) (w .ensures .1 .1) (c .before .before .extend .ensures)
 
 same-length-3 : tie.Need-same-length-3
 same-length-3 c = search needs
@@ -84,42 +93,64 @@ same-length-3 c = search needs
 same-length-4 : tie.Need-same-length-4
 same-length-4 c = search needs
 
-returns-2 : tie.Need-returns-2
-returns-2 c =
-    let a = c .before .before .before .before .before .before .before .before .before .before .before .before .before .before .before .before .before .before .before .args in
-    let w = c .before .before .before .before .before .before .before .before .write-at2 in
-    after-next (a .s) (a .pages .now) (a .lists .now) (a .d) (a .n) (a .place) (a .spot) (a .stamp) (keyOf (a .prefix .now) (a .mode) (a .tag .now) (a .rest .now))
-    (c .before .before .before .before .before .before .before .before .before .before .before .before .spot2 .given .0 .0) (w .result) (a .h) _ _ _
-    (c .before .before .before .before .before .before .before .before .before .before .before .before .spot2 .given .1) (w .ensures .0) (c .before .before .before .before .before .before .before .before .before .before .before .before .before .before .before .before .before .before .before .pre .1 .1) (w .ensures .1 .0) (w .ensures .1 .1) (c .before .before .take-page .ensures)
-
 returns-3 : tie.Need-returns-3
 returns-3 c =
-    let a = c .before .before .before .before .before .before .before .args in
-    after-none (a .s) (a .pages .now) (a .lists .now) (a .d) (a .n) (a .place) (a .spot) (a .stamp) (keyOf (a .prefix .now) (a .mode) (a .tag .now) (a .rest .now)) (c .enum-told .given .1)
+    let g = c .before .before .before .before .before .before .before .before .before .before .before .before .before .before in
+    let a = g .before .before .before .before .before .before .before .before .args in
+    let w = c .before .before .before .before .before .before .before .before .before .before .write-at in
+    let n = room-next (a .spot) _ _ _ (c .before .before .before .before .enum-told3 .given .1) (found g) in
+    after-next (a .s) (a .pages .now) (a .lists .now) (a .d) (a .n) (a .place) (a .spot) (a .stamp) (keyOf (a .prefix .now) (a .mode) (a .tag .now) (a .rest .now))
+    (g .page .given .0 .0) (w .result) (a .h) _ _ _ (n .0) (w .ensures .0) (g .before .before .before .before .before .before .before .before .pre .1 .1) (rw (n .1) at (w .ensures .1 .0)) (rw (n .1) at (w .ensures .1 .1))
+    (c .before .before .take-page .ensures)
 
+same-length-5 : tie.Need-same-length-5
+same-length-5 c = search needs
+
+same-length-6 : tie.Need-same-length-6
+same-length-6 c = search needs
+
+-- Nothing was written before without a spot.
 returns-4 : tie.Need-returns-4
 returns-4 c =
-    let a = c .before .before .before .before .before .before .before .args in
-    after-bad (a .s) (a .pages .now) (a .lists .now) (a .d) (a .n) (a .place) (a .spot) (a .stamp) (keyOf (a .prefix .now) (a .mode) (a .tag .now) (a .rest .now)) (c .enum-told2 .given .1)
+    let g = c .before .before .before .before .before .before .before .before .before .before in
+    absurd (subst IsSpot (c .enum-told4 .given .1) (room-spot (g .before .before .before .before .before .before .before .before .args .spot) (g .page .given .0 .0) (g .page .given .0 .1 .0) (found g)))
+
+same-length-7 : tie.Need-same-length-7
+same-length-7 c = search needs
+
+same-length-8 : tie.Need-same-length-8
+same-length-8 c = search needs
+
+returns-5 : tie.Need-returns-5
+returns-5 c =
+    let g = c .before .before .before .before .before .before .before .before .before .before in
+    absurd (subst IsSpot (c .enum-told5 .given .1) (room-spot (g .before .before .before .before .before .before .before .before .args .spot) (g .page .given .0 .0) (g .page .given .0 .1 .0) (found g)))
 
 pub insert-spec : {M : Type 1} → statement M
 insert-spec =
     tie.close
     (tie.spec
-    enum-known-spot
+    room-at-requires
+    enum-known-page
+    enum-told
+    returns
     write-at-requires
+    enum-told-2
     add-extend
     extend-requires
-    enum-known-spot-2
-    write-at-requires-2
+    enum-told-3
     take-page-requires
-    enum-told
-    enum-told-2
+    enum-told-4
+    enum-told-5
     same-length
     same-length-2
-    returns
+    returns-2
     same-length-3
     same-length-4
-    returns-2
     returns-3
-    returns-4)
+    same-length-5
+    same-length-6
+    returns-4
+    same-length-7
+    same-length-8
+    returns-5)

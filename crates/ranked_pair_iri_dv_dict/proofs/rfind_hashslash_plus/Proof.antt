@@ -5,11 +5,11 @@ use mathlib.Core.Bool.{Bool, true, false, cond}
 use native.Mathlib.Omega.{arith}
 use borrow.Author.Needs.{needs}
 use lib.ListN.{length, getD, take}
-use lib.Seq.{take-length}
 use Rattle.slices.specs.Bytes.{Bytes}
 use Rattle.ranked_pair_iri_dv_dict.specs.declared.Head.the-variants.{Length, Nothing}
 use Rattle.ranked_pair_iri_dv_dict.specs.Split.{isMark, headLength, headFrom, headOf}
 use Rattle.ranked_pair_iri_dv_dict.proofs.Laws.{head-snoc}
+use Rattle.ranked_pair_iri_dv_dict.proofs.Words.{unmarked-head}
 use Rattle.ranked_pair_iri_dv_dict.proofs.rfind_hashslash_plus.Statement.{statement}
 use Rattle.ranked_pair_iri_dv_dict.proofs.rfind_hashslash_plus.Tie as tie
 
@@ -35,8 +35,15 @@ Inv-loop iri pos₀ pos = (pos ≤ length iri) × (headLength (take pos iri) ≡
 abbrev μ-loop : tie.MeasureT-loop
 μ-loop iri pos₀ pos = pos
 
+pass-words-requires : tie.Need-pass-words-requires Inv-loop μ-loop
+pass-words-requires c κs = search needs
+
 loop-holds : tie.Need-loop-holds Inv-loop μ-loop
-loop-holds c = (omega arith, ap headLength (take-length (c .before .args .iri .now)))
+loop-holds c =
+    let s = c .before .before .args .iri .now in
+    let r = c .pass-words .result in
+    let p = c .pass-words .ensures in
+    (p .0, unmarked-head (length s - r) r s (omega arith) (p .1))
 
 sub-last : tie.Need-sub-last Inv-loop μ-loop
 sub-last c = omega arith
@@ -50,7 +57,7 @@ is-mark-requires c κs = search needs
 returns : tie.Need-returns Inv-loop μ-loop
 returns c =
     let a = c .before .before .before .before in
-    let s = a .before .before .args .iri .now in
+    let s = a .before .before .before .args .iri .now in
     let m : isMark (getD s (a .loop .pos - 1) 0) ≡ true = sym (c .before .is-mark .ensures) ∙ c .if1 .taken in
     met s (a .loop .pos) (omega arith) (step s (a .loop .pos) true (omega arith) (omega arith) m (a .loop .inv .1))
 
@@ -60,14 +67,14 @@ loop-less c = omega arith
 loop-again : tie.Need-loop-again Inv-loop μ-loop
 loop-again c =
     let a = c .before .before .before .before in
-    let s = a .before .before .args .iri .now in
+    let s = a .before .before .before .args .iri .now in
     let m : isMark (getD s (a .loop .pos - 1) 0) ≡ false = sym (c .before .is-mark .ensures) ∙ c .if1 .left in
     (omega arith, sym (step s (a .loop .pos) false (omega arith) (omega arith) m (a .loop .inv .1)))
 
 returns-2 : tie.Need-returns-2 Inv-loop μ-loop
 returns-2 c =
     let a = c .before in
-    none-met (a .before .before .args .iri .now) (a .loop .pos) (omega arith) (a .loop .inv .1)
+    none-met (a .before .before .before .args .iri .now) (a .loop .pos) (omega arith) (a .loop .inv .1)
 
 pub rfind-hashslash-plus-spec : {M : Type 1} → statement M
 rfind-hashslash-plus-spec =
@@ -75,6 +82,7 @@ rfind-hashslash-plus-spec =
     (tie.spec
     Inv-loop
     μ-loop
+    pass-words-requires
     loop-holds
     sub-last
     shared-slice-read-is-mark
