@@ -3,3 +3,4 @@ pub mod Bounds
 pub mod Grammar
 pub mod Laws
 pub mod Plain
+pub mod Runs

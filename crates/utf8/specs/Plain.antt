@@ -8,12 +8,20 @@ use lib.ListN.{length, drop}
 use Rattle.slices.specs.Bytes.{Bytes}
 use Rattle.utf8.specs.declared.End.{End}
 use Rattle.utf8.specs.declared.End.the-variants.{At, Bad}
-use Rattle.utf8.specs.Text.{between, textFrom}
+use Rattle.utf8.specs.Text.{within, between, textFrom}
 
 -- Each byte is below 0x80, a character by itself.
 abbrev pub plain : Bytes → Bool
 plain [] = true
 plain (b ∷ s) = ltb b 0x80 && plain s
+
+-- A character of two bytes.
+abbrev pub two : ℕ → ℕ → Bool
+two a b = within 0xC2 0xDF a && within 0x80 0xBF b
+
+-- A character of three bytes whose first bounds no tail byte further.
+abbrev pub three : ℕ → ℕ → ℕ → Bool
+three a b c = within 0xE1 0xEC a && within 0x80 0xBF b && within 0x80 0xBF c
 
 -- The bytes from r on are text exactly if those from i on are.
 abbrev pub Same : Bytes → ℕ → ℕ → Type 0

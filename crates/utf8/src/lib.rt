@@ -2,8 +2,8 @@
 ghost use mathlib.Core.Path.{_≡_};
 ghost use Prim.Native.Nat.{_+_, _≤_, _<_};
 ghost use lib.ListN.{length, take, drop};
-ghost use Rattle.utf8.specs.Text.{firstOf, after, isText};
-ghost use Rattle.utf8.specs.Plain.{plain, Passed, Ends};
+ghost use Rattle.utf8.specs.Text.{within, firstOf, after, isText};
+ghost use Rattle.utf8.specs.Plain.{plain, two, three, Passed, Ends};
 
 // What the bytes read so far ask of the next one.
 pub enum Step {
@@ -142,6 +142,59 @@ fn pass_plain(s: &[u8], i: usize) -> usize
     pass_bytes(s, pass_words(s, i))
 }
 
+// Whether a byte is from `lo` to `hi`.
+fn is_within(lo: u8, hi: u8, b: u8) -> bool
+    ensures { λ r. ⌜ r ≡ within lo hi b ⌝ }
+{
+    lo <= b && b <= hi
+}
+
+// Whether two bytes are a character: first bytes C2 to DF have one tail byte.
+fn is_two(a: u8, b: u8) -> bool
+    ensures { λ r. ⌜ r ≡ two a b ⌝ }
+{
+    is_within(0xC2, 0xDF, a) && is_within(0x80, 0xBF, b)
+}
+
+// Whether three bytes are a character, by a first byte from E1 to EC, which bounds no tail byte further.
+fn is_three(a: u8, b: u8, c: u8) -> bool
+    ensures { λ r. ⌜ r ≡ three a b c ⌝ }
+{
+    is_within(0xE1, 0xEC, a) && is_within(0x80, 0xBF, b) && is_within(0x80, 0xBF, c)
+}
+
+// Past characters of two bytes from i on.
+fn pass_twos(s: &[u8], i: usize) -> usize
+    requires { ⌜ i ≤ length (now s) ⌝ }
+    ensures { λ r. ⌜ Passed (now (s .entry)) i r ⌝ }
+{
+    let n = s.len();
+    let mut k = i;
+    while 2 <= n - k {
+        if !is_two(s[k], s[k + 1]) {
+            return k;
+        }
+        k += 2;
+    }
+    k
+}
+
+// Past characters of three bytes from i on, those with a first byte from E1 to EC.
+fn pass_threes(s: &[u8], i: usize) -> usize
+    requires { ⌜ i ≤ length (now s) ⌝ }
+    ensures { λ r. ⌜ Passed (now (s .entry)) i r ⌝ }
+{
+    let n = s.len();
+    let mut k = i;
+    while 3 <= n - k {
+        if !is_three(s[k], s[k + 1], s[k + 2]) {
+            return k;
+        }
+        k += 3;
+    }
+    k
+}
+
 // Whether `s` is text.
 pub fn is_text(s: &[u8]) -> bool
     ensures { λ r. ⌜ r ≡ isText (now (s .entry)) ⌝ }
@@ -152,10 +205,16 @@ pub fn is_text(s: &[u8]) -> bool
     }
     let mut i = pass_plain(s, 0);
     while i < s.len() {
-        let End::At(k) = char_end(s, i) else {
-            return false;
-        };
-        i = pass_plain(s, k);
+        // Most characters that are not plain have two or three bytes; the rest are taken one by one.
+        let j = pass_threes(s, pass_twos(s, i));
+        if i < j {
+            i = pass_plain(s, j);
+        } else {
+            let End::At(k) = char_end(s, i) else {
+                return false;
+            };
+            i = pass_plain(s, k);
+        }
     }
     true
 }

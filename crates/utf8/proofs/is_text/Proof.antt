@@ -12,9 +12,10 @@ use Rattle.slices.specs.Bytes.{Bytes}
 use Rattle.utf8.specs.declared.End.{End}
 use Rattle.utf8.specs.declared.End.the-variants.{At, Bad}
 use Rattle.utf8.specs.Text.{between, textFrom, isText}
-use Rattle.utf8.specs.Plain.{Ends}
+use Rattle.utf8.specs.Plain.{Passed, Ends}
 use Rattle.utf8.proofs.End.{the-type}
 use Rattle.utf8.proofs.Bounds.{text-end}
+use Rattle.utf8.proofs.Plain.{pass-on}
 use Rattle.utf8.proofs.is_text.Statement.{statement}
 use Rattle.utf8.proofs.is_text.Tie as tie
 
@@ -28,9 +29,14 @@ Inv-loop s i₀ i = (i ≤ length s) × (textFrom between (drop i s) ≡ isText 
 abbrev μ-loop : tie.MeasureT-loop
 μ-loop s i₀ i = length s - i
 
+-- The characters of two and of three bytes from i to j.
+ran : (c : tie.After-pass-threes Inv-loop μ-loop)
+    → Passed (c .before .before .before .before .before .before .before .args .s .now) (c .before .before .before .loop .i) (c .pass-threes .result)
+ran c = pass-on _ _ _ _ (c .before .pass-twos .ensures) (c .pass-threes .ensures)
+
 -- The character at i ends at k.
 ends : (c : tie.After-known-told Inv-loop μ-loop)
-    → Ends (c .before .before .before .before .before .before .before .before .before .args .s .now) (c .before .before .before .before .before .loop .i) (At (c .before .k .given .0 .0))
+    → Ends (c .before .before .before .before .before .before .before .before .before .before .before .before .args .s .now) (c .before .before .before .before .before .before .before .before .loop .i) (At (c .before .k .given .0 .0))
 ends c = subst (Ends _ _) (c .before .k .given .1) (c .before .before .before .char-end .ensures)
 
 empty : (s : Bytes) → length s ≡ 0 → true ≡ isText s
@@ -48,6 +54,24 @@ loop-holds : tie.Need-loop-holds Inv-loop μ-loop
 unfolding isText
 loop-holds c = (c .pass-plain .ensures .1, c .pass-plain .ensures .2)
 
+pass-twos-requires : tie.Need-pass-twos-requires Inv-loop μ-loop
+pass-twos-requires c κs = omega arith
+
+pass-threes-requires : tie.Need-pass-threes-requires Inv-loop μ-loop
+pass-threes-requires c κs = c .pass-twos .ensures .1
+
+pass-plain-requires-2 : tie.Need-pass-plain-requires-2 Inv-loop μ-loop
+pass-plain-requires-2 c κs = c .before .pass-threes .ensures .1
+
+loop-less : tie.Need-loop-less Inv-loop μ-loop
+loop-less c = omega (arith, c .before .if2 .taken, c .pass-plain2 .ensures)
+
+loop-again : tie.Need-loop-again Inv-loop μ-loop
+loop-again c =
+    let a = c .before .before in
+    let p = pass-on _ _ _ _ (ran a) (c .pass-plain2 .ensures) in
+    (p .1, p .2 ∙ a .before .before .before .loop .inv .1)
+
 char-end-requires : tie.Need-char-end-requires Inv-loop μ-loop
 char-end-requires c κs = omega arith
 
@@ -60,18 +84,18 @@ enum-told c = search needs
 returns-2 : tie.Need-returns-2 Inv-loop μ-loop
 returns-2 c =
     let a = c .before .before in
-    sym (no-end _ _ (a .char-end .result) (a .char-end .ensures) (c .before .match .keys2)) ∙ a .before .before .loop .inv .1
+    sym (no-end _ _ (a .char-end .result) (a .char-end .ensures) (c .before .match .keys2)) ∙ a .before .before .before .before .before .loop .inv .1
 
-pass-plain-requires-2 : tie.Need-pass-plain-requires-2 Inv-loop μ-loop
-pass-plain-requires-2 c κs = ends c .1
+pass-plain-requires-3 : tie.Need-pass-plain-requires-3 Inv-loop μ-loop
+pass-plain-requires-3 c κs = ends c .1
 
-loop-less : tie.Need-loop-less Inv-loop μ-loop
-loop-less c = omega (arith, ends (c .before))
+loop-less-2 : tie.Need-loop-less-2 Inv-loop μ-loop
+loop-less-2 c = omega (arith, ends (c .before), c .pass-plain3 .ensures)
 
-loop-again : tie.Need-loop-again Inv-loop μ-loop
-loop-again c =
-    let p = c .pass-plain2 .ensures in
-    (p .1, p .2 ∙ ends (c .before) .2 ∙ c .before .before .before .before .before .before .loop .inv .1)
+loop-again-2 : tie.Need-loop-again-2 Inv-loop μ-loop
+loop-again-2 c =
+    let p = c .pass-plain3 .ensures in
+    (p .1, p .2 ∙ ends (c .before) .2 ∙ c .before .before .before .before .before .before .before .before .before .loop .inv .1)
 
 returns-3 : tie.Need-returns-3 Inv-loop μ-loop
 returns-3 c =
@@ -87,11 +111,16 @@ is-text-spec =
     returns
     pass-plain-requires
     loop-holds
+    pass-twos-requires
+    pass-threes-requires
+    pass-plain-requires-2
+    loop-less
+    loop-again
     char-end-requires
     enum-known-k
     enum-told
     returns-2
-    pass-plain-requires-2
-    loop-less
-    loop-again
+    pass-plain-requires-3
+    loop-less-2
+    loop-again-2
     returns-3)
