@@ -17,8 +17,8 @@ pub raw : (s : Bytes) → bytesOf Raw s ≡ s
 unfolding bytesOf
 raw s = refl
 
-pub length-key : (prefix : Bytes) (mode : Mode) (tag rest : Bytes) → length (keyOf prefix mode tag rest) ≡ length prefix + length (bytesOf mode tag) + length rest
-length-key prefix mode tag rest = simp length-append (omega arith)
+pub length-key : (mode : Mode) (front rest : Bytes) → length (keyOf mode front rest) ≡ length (bytesOf mode front) + length rest
+length-key mode front rest = length-append (bytesOf mode front) rest
 
 -- The tail of l comes back with the part at its front.
 pub put-part : (vs l : Bytes) (at : ℕ) → at + length vs ≤ length l
@@ -28,16 +28,11 @@ put-part vs l at h =
     let f : length vs ≤ length (take k (drop at l)) = simp (length-take, length-drop) (omega arith) in
     ap (λ (x : Bytes). take at l ++ (x ++ drop k (drop at l))) (sym (sets-front vs (take k (drop at l)) f)) ∙ sets-mid vs l at k (omega arith) (omega arith)
 
--- Three parts one after the other.
-pub put-key : (l l₁ l₂ l₃ prefix : Bytes) (mode : Mode) (tag rest : Bytes) (at b c : ℕ)
-    → l₁ ≡ sets l at (bytesOf Raw prefix) → l₂ ≡ sets l₁ b (bytesOf mode tag) → l₃ ≡ sets l₂ c (bytesOf Raw rest)
-    → b ≡ at + length prefix → c ≡ b + length (bytesOf mode tag)
-    → l₃ ≡ sets l at (keyOf prefix mode tag rest)
-put-key l l₁ l₂ l₃ prefix mode tag rest at b c p q r e f =
-    let t : Bytes = bytesOf mode tag in
-    let u = sets-append (prefix ++ t) rest l at in
-    let v = sets-append prefix t l at in
-    let n : at + length (prefix ++ t) ≡ c = simp length-append (omega arith) in
-    let x : l₁ ≡ sets l at prefix = rw raw at p in
-    let y : l₃ ≡ sets l₂ c rest = rw raw at r in
+-- The front, and the rest behind it.
+pub put-key : (l l₁ l₂ : Bytes) (mode : Mode) (front rest : Bytes) (at b : ℕ)
+    → l₁ ≡ sets l at (bytesOf mode front) → l₂ ≡ sets l₁ b (bytesOf Raw rest) → b ≡ at + length (bytesOf mode front)
+    → l₂ ≡ sets l at (keyOf mode front rest)
+put-key l l₁ l₂ mode front rest at b p q e =
+    let u = sets-append (bytesOf mode front) rest l at in
+    let y : l₂ ≡ sets l₁ b rest = rw raw at q in
     cc

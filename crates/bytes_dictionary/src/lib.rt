@@ -49,16 +49,14 @@ fn write_part(pages: &mut [u8], at: usize, mode: Mode, part: &[u8])
     parts::write(mode, part, &mut pages[at..]);
 }
 
-// Writes a key, one part after the other.
-fn write_key(pages: &mut [u8], at: usize, prefix: &[u8], mode: Mode, tag: &[u8], rest: &[u8])
-    requires { ⌜ at + length (keyOf (now prefix) mode (now tag) (now rest)) ≤ length (now pages) ⌝ }
-    ensures { λ _. ⌜ now (pages .exit) ≡ sets (now (pages .entry)) at (keyOf (now (prefix .entry)) mode (now (tag .entry)) (now (rest .entry))) ⌝ }
+// Writes a key, its front and the rest behind it.
+fn write_key(pages: &mut [u8], at: usize, mode: Mode, front: &[u8], rest: &[u8])
+    requires { ⌜ at + length (keyOf mode (now front) (now rest)) ≤ length (now pages) ⌝ }
+    ensures { λ _. ⌜ now (pages .exit) ≡ sets (now (pages .entry)) at (keyOf mode (now (front .entry)) (now (rest .entry))) ⌝ }
 {
-    let b = at + prefix.len();
-    let c = b + parts::measure(mode, tag);
-    write_part(pages, at, Mode::Raw, prefix);
-    write_part(pages, b, mode, tag);
-    write_part(pages, c, Mode::Raw, rest);
+    let b = at + parts::measure(mode, front);
+    write_part(pages, at, mode, front);
+    write_part(pages, b, Mode::Raw, rest);
 }
 
 // Where an entry lies, in one word.
@@ -103,12 +101,12 @@ fn write_entry(
 }
 
 // What a fresh entry gets: its dictionary and its number there, the index place that names it, and its stamp; and its key's hash.
-struct Fresh {
-    d: usize,
-    n: usize,
-    place: usize,
-    stamp: usize,
-    h: u32,
+pub struct Fresh {
+    pub d: usize,
+    pub n: usize,
+    pub place: usize,
+    pub stamp: usize,
+    pub h: u32,
 }
 
 // Writes an entry at an offset of a page, and gives its length.
@@ -119,20 +117,19 @@ fn write_at(
     x: Fresh,
     page: usize,
     offset: usize,
-    prefix: &[u8],
     mode: Mode,
-    tag: &[u8],
+    front: &[u8],
     rest: &[u8],
 ) -> usize
     requires { ⌜ Fits s (now pages) (now lists) (x .d) × (x .n < s .e) × (x .place < 2 * s .e) ⌝ }
-    requires { ⌜ (page < s .n) × (offset + length (keyOf (now prefix) mode (now tag) (now rest)) ≤ pageSize s) ⌝ }
-    ensures length { λ r. ⌜ r ≡ length (keyOf (now (prefix .entry)) mode (now (tag .entry)) (now (rest .entry))) ⌝ }
-    ensures pages { λ _. ⌜ now (pages .exit) ≡ sets (now (pages .entry)) (page * pageSize s + offset) (keyOf (now (prefix .entry)) mode (now (tag .entry)) (now (rest .entry))) ⌝ }
+    requires { ⌜ (page < s .n) × (offset + length (keyOf mode (now front) (now rest)) ≤ pageSize s) ⌝ }
+    ensures length { λ r. ⌜ r ≡ length (keyOf mode (now (front .entry)) (now (rest .entry))) ⌝ }
+    ensures pages { λ _. ⌜ now (pages .exit) ≡ sets (now (pages .entry)) (page * pageSize s + offset) (keyOf mode (now (front .entry)) (now (rest .entry))) ⌝ }
     ensures lists { λ r. ⌜ now (lists .exit) ≡ entryWritten s (now (lists .entry)) (x .d) (x .n) page offset r (x .stamp) (x .place) (x .h) ⌝ }
 {
-    let len = prefix.len() + parts::measure(mode, tag) + rest.len();
+    let len = parts::measure(mode, front) + rest.len();
     let at = page * layout::page_size(s) + offset;
-    write_key(pages, at, prefix, mode, tag, rest);
+    write_key(pages, at, mode, front, rest);
     write_entry(lists, s, x.d, x.n, page, offset, len, x.stamp, x.place, x.h);
     len
 }
@@ -154,42 +151,30 @@ fn room_at(spot: Spot) -> Room
     }
 }
 
-// Writes a fresh key, whose hash is h, as entry number n where it was planned. It cannot fail; a plan without a spot has nothing written.
+// Writes a fresh key where it was planned. It cannot fail; a plan without a spot has nothing written.
 pub fn insert(
     pages: &mut [u8],
     lists: &mut [u8],
     s: Sizes,
-    d: usize,
-    n: usize,
-    place: usize,
+    x: Fresh,
     spot: Spot,
-    stamp: usize,
-    h: u32,
-    prefix: &[u8],
     mode: Mode,
-    tag: &[u8],
+    front: &[u8],
     rest: &[u8],
 )
-    requires { ⌜ Fits s (now pages) (now lists) d × (n < s .e) × (place < 2 * s .e) ⌝ }
-    requires { ⌜ HasRoom s (length (keyOf (now prefix) mode (now tag) (now rest))) spot ⌝ }
-    requires { ⌜ h ≡ fnvOf (keyOf (now prefix) mode (now tag) (now rest)) ⌝ }
-    ensures pages { λ _. ⌜ now (pages .exit) ≡ pagesAfter s (now (pages .entry)) spot (keyOf (now (prefix .entry)) mode (now (tag .entry)) (now (rest .entry))) ⌝ }
-    ensures lists { λ _. ⌜ now (lists .exit) ≡ listsAfter s (now (lists .entry)) d n place spot stamp (keyOf (now (prefix .entry)) mode (now (tag .entry)) (now (rest .entry))) ⌝ }
+    requires { ⌜ Fits s (now pages) (now lists) (x .d) × (x .n < s .e) × (x .place < 2 * s .e) ⌝ }
+    requires { ⌜ HasRoom s (length (keyOf mode (now front) (now rest))) spot ⌝ }
+    requires { ⌜ x .h ≡ fnvOf (keyOf mode (now front) (now rest)) ⌝ }
+    ensures pages { λ _. ⌜ now (pages .exit) ≡ pagesAfter s (now (pages .entry)) spot (keyOf mode (now (front .entry)) (now (rest .entry))) ⌝ }
+    ensures lists { λ _. ⌜ now (lists .exit) ≡ listsAfter s (now (lists .entry)) (x .d) (x .n) (x .place) spot (x .stamp) (keyOf mode (now (front .entry)) (now (rest .entry))) ⌝ }
 {
-    let x = Fresh {
-        d,
-        n,
-        place,
-        stamp,
-        h,
-    };
     let Room::At { page, offset } = room_at(spot) else {
         return;
     };
-    let len = write_at(pages, lists, s, x, page, offset, prefix, mode, tag, rest);
+    let len = write_at(pages, lists, s, x, page, offset, mode, front, rest);
     match spot {
         Spot::Current { page: _, offset: _ } => bytes_buffer::extend(lists, page, offset + len),
-        Spot::Next(_) => bytes_buffer::take_page(lists, d, page, len),
+        Spot::Next(_) => bytes_buffer::take_page(lists, x.d, page, len),
         Spot::NoPage => {}
         Spot::Bad => {}
     }

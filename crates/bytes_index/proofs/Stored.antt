@@ -2,17 +2,16 @@
 use mathlib.Core.Path.{_≡_, _∙_, sym, ap, subst}
 use mathlib.Core.Logic.{_≢_, inl, inr}
 use mathlib.Core.Bool.{true, false, _&&_}
-use mathlib.Core.List.{_++_}
+use mathlib.Core.List.{[], _∷_, _++_}
 use Prim.Native.Nat.{ℕ, _+_, _-_, _≤_, _<_}
 use native.Mathlib.Omega.{arith}
 use lib.Dec.{eqb, ltb, leb}
 use lib.ListN.{length, getD, take, drop, length-append, length-take, length-drop, take-append-drop}
-use lib.Seq.{ext-getD, getD-take, getD-drop, getD-append-add, take-append-seam, take-take, take-add, drop-at, length-take-le}
+use lib.Seq.{ext-getD, getD-take, getD-drop, getD-append-add, take-append-seam}
 use borrow.Author.Tests.{ltb-true, leb-true, eqb-true, lt-ltb, le-leb, eq-eqb, ne-eqb}
 use Rattle.slices.specs.Bytes.{Bytes, sameBytes}
 use Rattle.slices.proofs.Bytes.{bytes-true, bytes-same}
 use Rattle.slices.proofs.Tests.{Split, split, and-left, and-right, clash}
-use Rattle.parts.proofs.Laws.{same-append}
 use Rattle.layout.specs.declared.Sizes.{Sizes}
 use Rattle.layout.specs.Sizes.{pageSize}
 use Rattle.layout.specs.Fields.{pageOf, offsetOf, sizeOf}
@@ -94,17 +93,16 @@ pub front-short : (x f : Bytes) (n : ℕ) → length x ≢ length f + n → fron
 unfolding frontIs
 front-short x f n h = rw (ne-eqb (length x) (length f + n) h)
 
--- One part of the front after the other.
-pub front-parts : (x a b : Bytes) (n : ℕ) → length x ≡ length (a ++ b) + n
-    → frontIs x (a ++ b) n ≡ (sameBytes a (take (length a) x) && sameBytes b (take (length b) (drop (length a) x)))
+-- No front.
+pub front-none : (x f : Bytes) (n : ℕ) → length f ≡ 0 → length x ≡ n → frontIs x f n ≡ true
 unfolding frontIs
-front-parts x a b n h =
-    let l : length (a ++ b) ≡ length a + length b = length-append a b in
-    let p : take (length a) (take (length a + length b) x) ≡ take (length a) x = take-take (length a) (length a + length b) x (omega arith) in
-    let q : drop (length a) (take (length a + length b) x) ≡ take (length b) (drop (length a) x) =
-    ap (drop (length a)) (take-add (length a) (length b) x)
-    ∙ drop-at (take (length a) x) (take (length b) (drop (length a) x)) (length a) (length-take-le (length a) x (omega arith)) in
-    rw (eq-eqb (length x) (length (a ++ b) + n) h, l, same-append a b (take (length a + length b) x), p, q)
+front-none x [] n z h = rw (eq-eqb (length x) (0 + n) (omega arith))
+front-none x (a ∷ f) n z h = absurd (omega arith)
+
+-- A front of m bytes decides.
+pub front-same : (x f : Bytes) (n m : ℕ) → m ≡ length f → length x ≡ m + n → sameBytes f (take m x) ≡ frontIs x f n
+unfolding frontIs
+front-same x f n m e h = rw (e, eq-eqb (length x) (length f + n) (omega arith))
 
 pub front-facts : (x f : Bytes) (n : ℕ) → frontIs x f n ≡ true → (length x ≡ length f + n) × (f ≡ take (length f) x)
 unfolding frontIs

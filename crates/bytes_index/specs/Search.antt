@@ -17,9 +17,9 @@ use Rattle.bytes_index.specs.Entries.{Entries, Holds, Misses}
 use Rattle.bytes_index.specs.declared.Probe.{Probe}
 use Rattle.bytes_index.specs.declared.Probe.the-variants.{At, Free, Bad}
 
--- A key is a few parts one after the other, where they lie.
-abbrev pub keyOf : Bytes → Mode → Bytes → Bytes → Bytes
-keyOf prefix mode tag rest = prefix ++ bytesOf mode tag ++ rest
+-- A key is a front and a rest, where they lie.
+abbrev pub keyOf : Mode → Bytes → Bytes → Bytes
+keyOf mode front rest = bytesOf mode front ++ rest
 
 -- A stored key is this front and n bytes more.
 unfoldable pub frontIs : Bytes → Bytes → ℕ → Bool

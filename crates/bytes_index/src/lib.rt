@@ -6,8 +6,7 @@ use layout::PAGE_NUMBERS;
 use layout::Sizes;
 use parts::Mode;
 ghost use mathlib.Core.Path.{_≡_};
-ghost use mathlib.Core.List.{_++_};
-ghost use Prim.Native.Nat.{_+_, _*_, _%_, _≤_, _<_};
+ghost use Prim.Native.Nat.{_+_, _*_, _%_, _^_, _≤_, _<_};
 ghost use lib.ListN.{length};
 ghost use Rattle.fnv.specs.Fnv.{fnvOf};
 ghost use Rattle.words.specs.Words.{wordAt};
@@ -31,10 +30,10 @@ pub enum Span {
 }
 
 // The hash of a key.
-pub fn hash(prefix: &[u8], mode: Mode, tag: &[u8], rest: &[u8]) -> u32
-    ensures { λ r. ⌜ r ≡ fnvOf (keyOf (now (prefix .entry)) mode (now (tag .entry)) (now (rest .entry))) ⌝ }
+pub fn hash(mode: Mode, front: &[u8], rest: &[u8]) -> u32
+    ensures { λ r. ⌜ r ≡ fnvOf (keyOf mode (now (front .entry)) (now (rest .entry))) ⌝ }
 {
-    let h = parts::hash_on(fnv::fnv(prefix), mode, tag);
+    let h = parts::hash_on(fnv::START, mode, front);
     fnv::fnv_from(h, rest)
 }
 
@@ -86,38 +85,22 @@ pub fn entry(lists: &[u8], s: Sizes, d: usize, i: usize) -> Span
     }
 }
 
-// Whether a stored key is the prefix, the tag, whose stored length is `measured`, and `rest` bytes more.
-fn front_is(
-    stored: &[u8],
-    prefix: &[u8],
-    mode: Mode,
-    tag: &[u8],
-    measured: usize,
-    rest: usize,
-) -> bool
-    requires { ⌜ measured ≡ length (bytesOf mode (now tag)) ⌝ }
-    ensures { λ r. ⌜ r ≡ frontIs (now (stored .entry)) (now (prefix .entry) ++ bytesOf mode (now (tag .entry))) rest ⌝ }
+// Whether a stored key is the front, whose stored length is `measured`, and `rest` bytes more.
+fn front_is(stored: &[u8], mode: Mode, front: &[u8], measured: usize, rest: usize) -> bool
+    requires { ⌜ measured ≡ length (bytesOf mode (now front)) ⌝ }
+    ensures { λ r. ⌜ r ≡ frontIs (now (stored .entry)) (bytesOf mode (now (front .entry))) rest ⌝ }
 {
-    let a = prefix.len();
-    if stored.len() < a {
+    if stored.len() < measured {
         return false;
     }
-    let after = stored.len() - a;
-    if after < measured {
+    if stored.len() - measured != rest {
         return false;
     }
-    if after - measured != rest {
-        return false;
-    }
-    if !parts::same(Mode::Raw, prefix, &stored[..a]) {
-        return false;
-    }
-    // Most keys have no tag.
+    // Heads and plain strings have no front.
     if measured == 0 {
         return true;
     }
-    let b = a + measured;
-    parts::same(mode, tag, &stored[a..b])
+    parts::same(mode, front, &stored[..measured])
 }
 
 // How many bytes more agree of the `left` last ones of the rest, which end at `end` in the pages: eight at a time where the rest has eight, else all of them. 0: they do not agree.
@@ -143,24 +126,23 @@ fn agreeing(pages: &[u8], end: usize, rest: &[u8], left: usize) -> usize
 
 // Searches the index of dictionary d for a key: from its hash h up, 2e places at the most, to its entry or the first empty place.
 // The caller hashes, since it knows which parts of the key are there. An entry whose hash has other top bits is another key's.
-pub fn bytes_to_id(
+fn probe_index(
     pages: &[u8],
     lists: &[u8],
     s: Sizes,
     d: usize,
     h: u32,
-    prefix: &[u8],
     mode: Mode,
-    tag: &[u8],
+    front: &[u8],
     rest: &[u8],
 ) -> Probe
-    requires { ⌜ Fits s (now pages) (now lists) d × (h ≡ fnvOf (keyOf (now prefix) mode (now tag) (now rest))) ⌝ }
-    ensures { λ r. ⌜ Searched s d (now (pages .entry)) (now (lists .entry)) (keyOf (now (prefix .entry)) mode (now (tag .entry)) (now (rest .entry))) r ⌝ }
+    requires { ⌜ Fits s (now pages) (now lists) d × (h ≡ fnvOf (keyOf mode (now front) (now rest))) × (length (bytesOf mode (now front)) < 2 ^ 64) ⌝ }
+    ensures { λ r. ⌜ Searched s d (now (pages .entry)) (now (lists .entry)) (keyOf mode (now (front .entry)) (now (rest .entry))) r ⌝ }
 {
     let e = s.e;
     let m = 2 * e;
     let places = 2 * (layout::dict_at(s, d) + m);
-    let measured = parts::measure(mode, tag);
+    let measured = parts::measure(mode, front);
     let n = rest.len();
     let top = top_bits(h);
     let mut j = start(h, m);
@@ -186,7 +168,7 @@ pub fn bytes_to_id(
                 return Probe::Bad;
             };
             let end = at + len;
-            if front_is(&pages[at..end], prefix, mode, tag, measured, n) {
+            if front_is(&pages[at..end], mode, front, measured, n) {
                 let mut left = n;
                 loop {
                     if left == 0 {
@@ -204,4 +186,22 @@ pub fn bytes_to_id(
         t += 1;
     }
     Probe::At(w - 1)
+}
+
+// Searches the index of dictionary d for a key.
+// The slices are handed on as parts of themselves: so the compiler takes them apart, and a call hands over what they hold in registers.
+pub fn bytes_to_id(
+    pages: &[u8],
+    lists: &[u8],
+    s: Sizes,
+    d: usize,
+    h: u32,
+    mode: Mode,
+    front: &[u8],
+    rest: &[u8],
+) -> Probe
+    requires { ⌜ Fits s (now pages) (now lists) d × (h ≡ fnvOf (keyOf mode (now front) (now rest))) × (length (bytesOf mode (now front)) < 2 ^ 64) ⌝ }
+    ensures { λ r. ⌜ Searched s d (now (pages .entry)) (now (lists .entry)) (keyOf mode (now (front .entry)) (now (rest .entry))) r ⌝ }
+{
+    probe_index(&pages[..], &lists[..], s, d, h, mode, &front[..], &rest[..])
 }

@@ -1,6 +1,6 @@
 -- Each way that add answers is as promised. Assumes nothing.
 use Prim.Native.Nat.{ℕ}
-use mathlib.Core.Path.{_≡_, refl, ap}
+use mathlib.Core.Path.{_≡_, refl, sym, ap, subst, _∙_}
 use mathlib.Core.Logic.{inl, inr}
 use mathlib.Core.Option.{none, some}
 use native.Mathlib.Omega.{arith}
@@ -17,7 +17,10 @@ use Rattle.model.specs.Steps.{checks}
 use Rattle.model.proofs.Decide.{decided-illegal}
 use Rattle.memory.specs.Promises.{AddPost}
 use Rattle.memory.proofs.Beyond.{beyond-same}
-use Rattle.enter.specs.Added.{Added}
+use Rattle.names.specs.Checks.{shapeRefusal, textRefusal}
+use Rattle.names.proofs.Checks.{text-decides}
+use Rattle.enter.specs.Added.{Added, Judged}
+use Rattle.enter.proofs.Judges.{judge}
 use Rattle.dictionary.proofs.Headers.{no-state, sizes-read, not-always, one-sizes}
 
 pub add-unopened : (pages lists : Bytes) (a : Name) → headerOf (length pages) lists ≡ H.Unopened → AddPost pages lists a (AddAnswer.refused Unopened) pages lists
@@ -63,3 +66,14 @@ module _ (pages lists : Bytes) (s : Sizes) (e : headerOf (length pages) lists �
             let q : t ≡ s = one-sizes pages lists s e t st S in
             rw q (h .whole st a (rw q at S) legal refl);
       }
+
+  -- Refused for its text, or added.
+  pub add-judged : shapeRefusal s a ≡ none → (r : AddAnswer) (pages′ lists′ : Bytes) → Judged (textRefusal a) s (λ st b. b ≡ a) pages lists r pages′ lists′
+      → AddPost pages lists a r pages′ lists′
+  add-judged shaped r pages′ lists′ h =
+      judge s (λ st b. b ≡ a) pages lists (textRefusal a) r pages′ lists′ (AddPost pages lists a r pages′ lists′) h
+      (λ why e p q t.
+      subst (λ (x : AddAnswer). AddPost pages lists a x pages′ lists′) (sym p)
+      (subst (λ (x : Bytes). AddPost pages lists a (AddAnswer.refused why) x lists′) (sym q)
+      (subst (AddPost pages lists a (AddAnswer.refused why) pages) (sym t) (add-illegal why (text-decides s a shaped ∙ e)))))
+      (λ e y. add-legal (text-decides s a shaped ∙ e) r pages′ lists′ y)

@@ -80,7 +80,7 @@ pub fn add<'a>(
     let Header::Opened(s) = layout::check_header(pages, lists) else {
         return AddResult::Refused(Refusal::Unopened);
     };
-    if let Checked::Illegal(why) = names::check_name(s, kind, first, second) {
+    if let Checked::Illegal(why) = names::check_shape(s, kind, first, second) {
         return AddResult::Refused(why);
     }
     enter_pair::add_name(pages, lists, s, kind, first, second)

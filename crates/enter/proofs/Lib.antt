@@ -2,3 +2,4 @@
 pub mod Steps
 pub mod Plans
 pub mod Adds
+pub mod Judges

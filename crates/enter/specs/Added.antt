@@ -2,8 +2,9 @@
 use Prim.Native.Nat.{ℕ}
 use mathlib.Core.Path.{_≡_}
 use mathlib.Core.Bool.{false}
-use mathlib.Core.Option.{none}
+use mathlib.Core.Option.{Option, none, some}
 use Rattle.slices.specs.Bytes.{Bytes}
+use Rattle.refusals.specs.declared.Refusal.{Refusal}
 use Rattle.layout.specs.declared.Sizes.{Sizes}
 use Rattle.model.specs.Names.{Name}
 use Rattle.model.specs.Answers.{AddAnswer}
@@ -19,6 +20,11 @@ pub record Added (s : Sizes) (Means : State → Name → Type 0) (pages lists : 
   pub kept : ((n : ℕ) → ¬ (r ≡ AddAnswer.fresh n)) → (pages′ ≡ pages) × (lists′ ≡ lists)
   pub beyond : SameBeyond s pages lists pages′ lists′
   pub whole : (st : State) (a : Name) → Stands s st pages lists → checks s a ≡ none → Means st a → (r ≡ addAnswer s st a) × Stands s (afterAdd s st a) pages′ lists′
+
+-- Refused where a refusal is given, with nothing written; else added.
+unfoldable pub Judged : Option Refusal → Sizes → (State → Name → Type 0) → Bytes → Bytes → AddAnswer → Bytes → Bytes → Type 0
+Judged (some why) s Means pages lists r pages′ lists′ = (r ≡ AddAnswer.refused why) × (pages′ ≡ pages) × (lists′ ≡ lists)
+Judged none s Means pages lists r pages′ lists′ = Added s Means pages lists r pages′ lists′
 
 -- A name of the kind k whose head is stored, or that has none, with this key.
 pub record HasKey (k : ℕ) (key : Bytes) (st : State) (a : Name) : Type 0 where

@@ -3,6 +3,7 @@ use bytes_buffer::Lowest;
 use bytes_buffer::Spot;
 use bytes_dictionary::Counted;
 use bytes_dictionary::EntryId;
+use bytes_dictionary::Fresh;
 use bytes_index::Probe;
 use layout::KINDS;
 use layout::Sizes;
@@ -20,9 +21,11 @@ ghost use Rattle.fnv.specs.Fnv.{fnvOf};
 ghost use Rattle.layout.specs.Sizes.{InRange, kinds, listBytes};
 ghost use Rattle.bytes_index.specs.Search.{keyOf, Searched};
 ghost use Rattle.bytes_index.specs.declared.Probe.the-variants.{Free};
+ghost use Rattle.model.specs.Names.{entered};
 ghost use Rattle.model.specs.Kinds.{row};
+ghost use Rattle.names.specs.Checks.{textRefusal};
 ghost use Rattle.enter.specs.Answers.{addedBy, spotChecked, blockRefused, Stamps, Knows, Reserves, Plans};
-ghost use Rattle.enter.specs.Added.{Lent, Added, HasKey};
+ghost use Rattle.enter.specs.Added.{Lent, Added, Judged, HasKey};
 
 pub enum AddResult {
     Fresh(GlobalId),
@@ -156,40 +159,30 @@ fn add_entry(
     k: usize,
     place: usize,
     h: u32,
-    prefix: &[u8],
     mode: Mode,
-    tag: &[u8],
+    front: &[u8],
     rest: &[u8],
 ) -> AddResult
     requires { ⌜ Lent s (now pages) (now lists) k ⌝ }
-    requires { ⌜ Searched s (row k .mainAt) (now pages) (now lists) (keyOf (now prefix) mode (now tag) (now rest)) (Free place) ⌝ }
-    requires { ⌜ length (keyOf (now prefix) mode (now tag) (now rest)) ≤ 8192 ⌝ }
-    requires { ⌜ h ≡ fnvOf (keyOf (now prefix) mode (now tag) (now rest)) ⌝ }
-    ensures { λ r. ⌜ Added s (HasKey k (keyOf (now (prefix .entry)) mode (now (tag .entry)) (now (rest .entry)))) (now (pages .entry)) (now (lists .entry)) (addedBy r) (now (pages .exit)) (now (lists .exit)) ⌝ }
+    requires { ⌜ Searched s (row k .mainAt) (now pages) (now lists) (keyOf mode (now front) (now rest)) (Free place) ⌝ }
+    requires { ⌜ length (keyOf mode (now front) (now rest)) ≤ 8192 ⌝ }
+    requires { ⌜ h ≡ fnvOf (keyOf mode (now front) (now rest)) ⌝ }
+    ensures { λ r. ⌜ Added s (HasKey k (keyOf mode (now (front .entry)) (now (rest .entry)))) (now (pages .entry)) (now (lists .entry)) (addedBy r) (now (pages .exit)) (now (lists .exit)) ⌝ }
 {
-    let len = prefix.len() + parts::measure(mode, tag) + rest.len();
+    let len = parts::measure(mode, front) + rest.len();
     match plan_entry(lists, s, k, len) {
         Planned::Ready(x) => {
-            let d = names::main_dictionary(k);
             let n = x.n;
             let g = x.g;
             let spot = x.spot;
-            let stamp = x.stamp;
-            bytes_dictionary::insert(
-                pages,
-                lists,
-                s,
-                d,
+            let fresh = Fresh {
+                d: names::main_dictionary(k),
                 n,
                 place,
-                spot,
-                stamp,
+                stamp: x.stamp,
                 h,
-                prefix,
-                mode,
-                tag,
-                rest,
-            );
+            };
+            bytes_dictionary::insert(pages, lists, s, fresh, spot, mode, front, rest);
             meta_dv_dict::take_block(lists, s, k, LocalId(n), g);
             AddResult::Fresh(meta_dv_dict::number_in(s, g, LocalId(n)))
         }
@@ -197,27 +190,33 @@ fn add_entry(
     }
 }
 
-// Adds a key, whose hash is h, to the kind k's names, or finds it there (Nemo's add_str).
+// Adds a name of the kind k by its key, whose hash is h, or finds it there (Nemo's add_str). Its text is checked after the search, which does
+// not wait for it.
 pub fn add_str(
     pages: &mut [u8],
     lists: &mut [u8],
     s: Sizes,
     k: usize,
+    first: &[u8],
+    second: &[u8],
     h: u32,
-    prefix: &[u8],
     mode: Mode,
-    tag: &[u8],
+    front: &[u8],
     rest: &[u8],
 ) -> AddResult
     requires { ⌜ Lent s (now pages) (now lists) k ⌝ }
-    requires { ⌜ length (keyOf (now prefix) mode (now tag) (now rest)) ≤ 8192 ⌝ }
-    requires { ⌜ h ≡ fnvOf (keyOf (now prefix) mode (now tag) (now rest)) ⌝ }
-    ensures { λ r. ⌜ Added s (HasKey k (keyOf (now (prefix .entry)) mode (now (tag .entry)) (now (rest .entry)))) (now (pages .entry)) (now (lists .entry)) (addedBy r) (now (pages .exit)) (now (lists .exit)) ⌝ }
+    requires { ⌜ length (keyOf mode (now front) (now rest)) ≤ 8192 ⌝ }
+    requires { ⌜ h ≡ fnvOf (keyOf mode (now front) (now rest)) ⌝ }
+    ensures { λ r. ⌜ Judged (textRefusal (entered k (now (first .entry)) (now (second .entry)))) s (HasKey k (keyOf mode (now (front .entry)) (now (rest .entry)))) (now (pages .entry)) (now (lists .entry)) (addedBy r) (now (pages .exit)) (now (lists .exit)) ⌝ }
 {
     let d = names::main_dictionary(k);
-    match bytes_index::bytes_to_id(pages, lists, s, d, h, prefix, mode, tag, rest) {
+    let found = bytes_index::bytes_to_id(pages, lists, s, d, h, mode, front, rest);
+    if let Checked::Illegal(why) = names::check_text(k, first, second) {
+        return AddResult::Refused(why);
+    }
+    match found {
         Probe::At(i) => known(lists, s, k, EntryId(i)),
-        Probe::Free(place) => add_entry(pages, lists, s, k, place, h, prefix, mode, tag, rest),
+        Probe::Free(place) => add_entry(pages, lists, s, k, place, h, mode, front, rest),
         Probe::Bad => AddResult::Refused(Refusal::Unopened),
     }
 }

@@ -139,8 +139,17 @@ module _ (s : Sizes) (pages lists : Bytes) (k : ℕ) (head rest : Bytes) (L : Le
       → Added s (HasPair k head rest) pages lists (AddAnswer.refused Unopened) pages lists
   never f = same _ (inl refl) (λ st a S legal M. absurd (f st a S legal M))
 
-  pub pair-foreign : Searched s (row k .headsAt) pages lists head Bad → Added s (HasPair k head rest) pages lists (AddAnswer.refused Unopened) pages lists
+  pair-foreign : Searched s (row k .headsAt) pages lists head Bad → Added s (HasPair k head rest) pages lists (AddAnswer.refused Unopened) pages lists
   pair-foreign q = never (λ st a S legal M. head-bad s st pages lists S k (L .kinded) head pair q)
+
+  -- Neither an entry nor an empty place.
+  pub pair-neither : (r : Probe) → (tagOf the-type r ≡ 1) ⊎ (tagOf the-type r ≡ 2) → (tagOf the-type r ≡ 0) ⊎ (tagOf the-type r ≡ 2)
+      → Searched s (row k .headsAt) pages lists head r → Added s (HasPair k head rest) pages lists (AddAnswer.refused Unopened) pages lists
+  pair-neither (At i) (inl t) u q = absurd (omega arith)
+  pair-neither (At i) (inr t) u q = absurd (omega arith)
+  pair-neither (Free j) t (inl u) q = absurd (omega arith)
+  pair-neither (Free j) t (inr u) q = absurd (omega arith)
+  pair-neither Bad t u q = pair-foreign q
 
   -- The head is entry f: the pair is added as a key.
   pub pair-known : (f : ℕ) (r : AddAnswer) (pages′ lists′ : Bytes) → Searched s (row k .headsAt) pages lists head (At f) → Added s (HasKey k (fid f ++ rest)) pages lists r pages′ lists′

@@ -13,8 +13,8 @@ pub use Rattle.search.proofs.Leads.{raw-key}
 use Rattle.enter_pair.specs.declared.PairPlan.{PairPlan}
 use Rattle.enter_pair.specs.Plans.{pairPages, pairLists}
 
-pub both-pages : (s : Sizes) (pages : Bytes) (x : PairPlan) (head lead rest pages₁ pages₂ : Bytes) → pages₁ ≡ pagesAfter s pages (x .head) (keyOf [] Raw [] head)
-    → pages₂ ≡ pagesAfter s pages₁ (x .pair) (keyOf lead Raw [] rest)
+pub both-pages : (s : Sizes) (pages : Bytes) (x : PairPlan) (head lead rest pages₁ pages₂ : Bytes) → pages₁ ≡ pagesAfter s pages (x .head) (keyOf Raw [] head)
+    → pages₂ ≡ pagesAfter s pages₁ (x .pair) (keyOf Raw lead rest)
     → pages₂ ≡ pairPages s pages x head (lead ++ rest)
 unfolding pairPages
 both-pages s pages x head lead rest pages₁ pages₂ p q =
@@ -22,8 +22,8 @@ both-pages s pages x head lead rest pages₁ pages₂ p q =
     ∙ ap (λ (y : Bytes). pagesAfter s y (x .pair) (lead ++ rest)) (p ∙ ap (pagesAfter s pages (x .head)) (raw-key [] head))
 
 pub both-lists : (s : Sizes) (lists : Bytes) (k h headPlace place : ℕ) (x : PairPlan) (head lead rest lists₁ lists₂ lists₃ : Bytes) (heads d : ℕ) → heads ≡ row k .headsAt → d ≡ row k .mainAt
-    → lists₁ ≡ listsAfter s lists heads h headPlace (x .head) (x .stamp) (keyOf [] Raw [] head)
-    → lists₂ ≡ listsAfter s lists₁ d (x .n) place (x .pair) (x .stamp) (keyOf lead Raw [] rest)
+    → lists₁ ≡ listsAfter s lists heads h headPlace (x .head) (x .stamp) (keyOf Raw [] head)
+    → lists₂ ≡ listsAfter s lists₁ d (x .n) place (x .pair) (x .stamp) (keyOf Raw lead rest)
     → lists₃ ≡ written s lists₂ k (x .n) (x .g)
     → lists₃ ≡ pairLists s lists k h headPlace place x head (lead ++ rest)
 unfolding pairLists

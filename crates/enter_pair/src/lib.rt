@@ -2,6 +2,7 @@
 use bytes_buffer::Lowest;
 use bytes_buffer::Spot;
 use bytes_dictionary::Counted;
+use bytes_dictionary::Fresh;
 use bytes_index::Probe;
 use enter::AddResult;
 use enter::Reserved;
@@ -16,20 +17,20 @@ use string_dv_dict::Checked;
 ghost use mathlib.Core.Path.{_≡_};
 ghost use mathlib.Core.Bool.{true};
 ghost use mathlib.Core.List.{_++_};
-ghost use mathlib.Core.Option.{none};
 ghost use Prim.Native.Nat.{_+_, _*_, _%_, _^_, _≤_, _<_};
 ghost use lib.ListN.{length};
 ghost use Rattle.fnv.specs.Fnv.{fnvOf};
 ghost use Rattle.limits.specs.Limits.{nameLimit};
 ghost use Rattle.layout.specs.Sizes.{InRange, kinds, listBytes};
+ghost use Rattle.ranked_pair_dictionary.specs.FrequentId.{fid};
 ghost use Rattle.bytes_index.specs.Search.{Searched};
 ghost use Rattle.bytes_index.specs.declared.Probe.the-variants.{Free};
 ghost use Rattle.model.specs.Names.{entered};
 ghost use Rattle.model.specs.Answers.{AddAnswer};
 ghost use Rattle.model.specs.Kinds.{row};
-ghost use Rattle.model.specs.Steps.{checks};
+ghost use Rattle.names.specs.Checks.{textRefusal};
 ghost use Rattle.enter.specs.Answers.{addedBy};
-ghost use Rattle.enter.specs.Added.{Lent, Added, HasPair};
+ghost use Rattle.enter.specs.Added.{Lent, Added, Judged, HasKey, HasPair};
 ghost use Rattle.enter_pair.specs.Plans.{PlansPair, PairPlanFits, pairPages, pairLists};
 
 // What an add of a head and its pair writes: the pair's number, both spots, the block and the stamp.
@@ -111,43 +112,36 @@ fn commit_pair(
     let head_spot = x.head;
     let spot = x.pair;
     let none = &head[..0];
-    let heads = names::head_dictionary(k);
-    let d = names::main_dictionary(k);
+    let fresh_head = Fresh {
+        d: names::head_dictionary(k),
+        n: f,
+        place: headplace,
+        stamp,
+        h: headhash,
+    };
     bytes_dictionary::insert(
         pages,
         lists,
         s,
-        heads,
-        f,
-        headplace,
+        fresh_head,
         head_spot,
-        stamp,
-        headhash,
-        none,
         Mode::Raw,
         none,
         head,
     );
-    bytes_dictionary::insert(
-        pages,
-        lists,
-        s,
-        d,
+    let fresh = Fresh {
+        d: names::main_dictionary(k),
         n,
         place,
-        spot,
         stamp,
         h,
-        lead,
-        Mode::Raw,
-        none,
-        rest,
-    );
+    };
+    bytes_dictionary::insert(pages, lists, s, fresh, spot, Mode::Raw, lead, rest);
     meta_dv_dict::take_block(lists, s, k, LocalId(n), g);
     AddResult::Fresh(meta_dv_dict::number_in(s, g, LocalId(n)))
 }
 
-// Adds a new head, whose search ended at `headplace`, and its pair. The head's number will be how many heads there are.
+// Adds a name with a new head, whose search ended at `headplace`: the head and its pair. The head's number will be how many heads there are.
 fn add_both(
     pages: &mut [u8],
     lists: &mut [u8],
@@ -170,17 +164,7 @@ fn add_both(
     };
     let h = fnv::fnv_from(fnv::fnv(&lead[..m]), rest);
     let d = names::main_dictionary(k);
-    let found = bytes_index::bytes_to_id(
-        pages,
-        lists,
-        s,
-        d,
-        h,
-        &lead[..m],
-        Mode::Raw,
-        &rest[..0],
-        rest,
-    );
+    let found = bytes_index::bytes_to_id(pages, lists, s, d, h, Mode::Raw, &lead[..m], rest);
     let Probe::Free(place) = found else {
         return AddResult::Refused(Refusal::Unopened);
     };
@@ -204,53 +188,66 @@ fn add_both(
     }
 }
 
-// Adds a head, if it is new, and the pair of its number and the rest; or finds the pair there.
+// Adds a name whose head is stored, under the number f: the pair of f and the rest.
+fn add_behind(
+    pages: &mut [u8],
+    lists: &mut [u8],
+    s: Sizes,
+    k: usize,
+    first: &[u8],
+    second: &[u8],
+    f: usize,
+    rest: &[u8],
+) -> AddResult
+    requires { ⌜ Lent s (now pages) (now lists) k × (f < s .e) × (length (now rest) ≤ nameLimit) ⌝ }
+    ensures { λ r. ⌜ Judged (textRefusal (entered k (now (first .entry)) (now (second .entry)))) s (HasKey k (fid f ++ now (rest .entry))) (now (pages .entry)) (now (lists .entry)) (addedBy r) (now (pages .exit)) (now (lists .exit)) ⌝ }
+{
+    let mut lead = [0u8; 4];
+    let Written::Length(m) = ranked_pair_dictionary::write_frequent_id(f, &mut lead) else {
+        return AddResult::Refused(Refusal::Unopened);
+    };
+    let h = fnv::fnv_from(fnv::fnv(&lead[..m]), rest);
+    let front = &lead[..m];
+    enter::add_str(pages, lists, s, k, first, second, h, Mode::Raw, front, rest)
+}
+
+// Adds a name with a head and a rest: the head, if it is new, and the pair of its number and the rest; or finds the pair there. The text is
+// checked once the head was searched for, or in add_str.
 fn add_pair(
     pages: &mut [u8],
     lists: &mut [u8],
     s: Sizes,
     k: usize,
+    first: &[u8],
+    second: &[u8],
     head: &[u8],
     rest: &[u8],
 ) -> AddResult
     requires { ⌜ Lent s (now pages) (now lists) k × (row k .paired ≡ true) × (length (now head) + length (now rest) ≤ nameLimit) ⌝ }
-    ensures { λ r. ⌜ Added s (HasPair k (now (head .entry)) (now (rest .entry))) (now (pages .entry)) (now (lists .entry)) (addedBy r) (now (pages .exit)) (now (lists .exit)) ⌝ }
+    ensures { λ r. ⌜ Judged (textRefusal (entered k (now (first .entry)) (now (second .entry)))) s (HasPair k (now (head .entry)) (now (rest .entry))) (now (pages .entry)) (now (lists .entry)) (addedBy r) (now (pages .exit)) (now (lists .exit)) ⌝ }
 {
-    match search::find_head(pages, lists, s, k, head) {
-        Probe::At(f) => {
-            let mut lead = [0u8; 4];
-            let Written::Length(m) = ranked_pair_dictionary::write_frequent_id(f, &mut lead) else {
-                return AddResult::Refused(Refusal::Unopened);
-            };
-            let h = fnv::fnv_from(fnv::fnv(&lead[..m]), rest);
-            enter::add_str(
-                pages,
-                lists,
-                s,
-                k,
-                h,
-                &lead[..m],
-                Mode::Raw,
-                &rest[..0],
-                rest,
-            )
-        }
-        Probe::Free(headplace) => add_both(pages, lists, s, k, headplace, head, rest),
-        Probe::Bad => AddResult::Refused(Refusal::Unopened),
+    let found = search::find_head(pages, lists, s, k, head);
+    if let Probe::At(f) = found {
+        return add_behind(pages, lists, s, k, first, second, f, rest);
     }
+    if let Checked::Illegal(why) = names::check_text(k, first, second) {
+        return AddResult::Refused(why);
+    }
+    let Probe::Free(headplace) = found else {
+        return AddResult::Refused(Refusal::Unopened);
+    };
+    add_both(pages, lists, s, k, headplace, head, rest)
 }
 
 fn add_tagged(pages: &mut [u8], lists: &mut [u8], s: Sizes, text: &[u8], tag: &[u8]) -> AddResult
     requires { ⌜ Lent s (now pages) (now lists) 2 × (length (now text) + length (now tag) ≤ nameLimit) ⌝ }
-    ensures { λ r. ⌜ Added s (λ st a. a ≡ entered 2 (now (text .entry)) (now (tag .entry))) (now (pages .entry)) (now (lists .entry)) (addedBy r) (now (pages .exit)) (now (lists .exit)) ⌝ }
+    ensures { λ r. ⌜ Judged (textRefusal (entered 2 (now (text .entry)) (now (tag .entry)))) s (λ st a. a ≡ entered 2 (now (text .entry)) (now (tag .entry))) (now (pages .entry)) (now (lists .entry)) (addedBy r) (now (pages .exit)) (now (lists .exit)) ⌝ }
 {
-    let front = [names::tag_front(tag)];
-    let mode = names::tag_mode(tag);
-    let h = bytes_index::hash(&front, mode, tag, text);
-    enter::add_str(pages, lists, s, TAGGED, h, &front, mode, tag, text)
+    let h = bytes_index::hash(Mode::Tag, tag, text);
+    enter::add_str(pages, lists, s, TAGGED, text, tag, h, Mode::Tag, tag, text)
 }
 
-// Adds a legal name, or finds it there. Both parts have one lifetime, since the rest may lie in either.
+// Adds a name of legal shape, or finds it there; or refuses it for its text. Both parts have one lifetime, since the rest may lie in either.
 pub fn add_name<'a>(
     pages: &mut [u8],
     lists: &mut [u8],
@@ -259,18 +256,20 @@ pub fn add_name<'a>(
     first: &'a [u8],
     second: &'a [u8],
 ) -> AddResult
-    requires { ⌜ Lent s (now pages) (now lists) kind × (checks s (entered kind (now first) (now second)) ≡ none) ⌝ }
-    ensures { λ r. ⌜ Added s (λ st a. a ≡ entered kind (now (first .entry)) (now (second .entry))) (now (pages .entry)) (now (lists .entry)) (addedBy r) (now (pages .exit)) (now (lists .exit)) ⌝ }
+    requires { ⌜ Lent s (now pages) (now lists) kind × (length (now first) + length (now second) ≤ nameLimit) ⌝ }
+    ensures { λ r. ⌜ Judged (textRefusal (entered kind (now (first .entry)) (now (second .entry)))) s (λ st a. a ≡ entered kind (now (first .entry)) (now (second .entry))) (now (pages .entry)) (now (lists .entry)) (addedBy r) (now (pages .exit)) (now (lists .exit)) ⌝ }
 {
     if kind == PLAIN {
         let none = &first[..0];
+        let h = fnv::fnv(first);
         return enter::add_str(
             pages,
             lists,
             s,
             PLAIN,
-            fnv::fnv(first),
-            none,
+            first,
+            second,
+            h,
             Mode::Raw,
             none,
             first,
@@ -282,5 +281,5 @@ pub fn add_name<'a>(
     // An IRI and a typed value differ in where head and rest lie.
     let n = names::head_length(kind, first);
     let rest = names::rest_behind(kind, first, second, n);
-    add_pair(pages, lists, s, kind, &first[..n], rest)
+    add_pair(pages, lists, s, kind, first, second, &first[..n], rest)
 }

@@ -3,6 +3,9 @@ ghost use mathlib.Core.Path.{_≡_};
 ghost use Prim.Native.Nat.{_*_, _%_, _^_, _<_};
 ghost use Rattle.fnv.specs.Fnv.{fnvStep, fnvFrom, fnvOf};
 
+// The hash of no bytes.
+pub const START: u32 = 2166136261;
+
 fn wide(x: u8) -> u32
     ensures { λ r. ⌜ (r ≡ x) × (r < 256) ⌝ }
 {
@@ -42,5 +45,5 @@ pub fn fnv_from(start: u32, s: &[u8]) -> u32
 pub fn fnv(s: &[u8]) -> u32
     ensures { λ r. ⌜ r ≡ fnvOf (now (s .entry)) ⌝ }
 {
-    fnv_from(2166136261, s)
+    fnv_from(START, s)
 }

@@ -1,13 +1,13 @@
 -- The two halves of a name's check make the whole. Assumes nothing.
-use Prim.Native.Nat.{_<_}
+use Prim.Native.Nat.{_<_, _≤_}
 use mathlib.Core.Path.{_≡_, _∙_}
 use mathlib.Core.Logic.{inl, inr}
 use mathlib.Core.Option.{Option, none, some}
-use borrow.Author.Tests.{leb-false}
+use borrow.Author.Tests.{leb-false, ltb-false}
 use lib.Dec.{leb, ltb}
 use Rattle.slices.proofs.Tests.{Split, split, or-left, passed}
 use Rattle.refusals.specs.declared.Refusal.{Refusal}
-use Rattle.refusals.specs.declared.Refusal.the-variants.{BadKind}
+use Rattle.refusals.specs.declared.Refusal.the-variants.{BadKind, TooLong}
 use Rattle.layout.specs.declared.Sizes.{Sizes}
 use Rattle.layout.specs.Sizes.{kinds}
 use Rattle.model.specs.Names.{Name, size, limit}
@@ -39,3 +39,8 @@ module _ (s : Sizes) (a : Name) where
   pub shape-kind : shapeRefusal s a ≡ none → a .kind < kinds
   unfolding shapeRefusal
   shape-kind e = leb-false kinds (a .kind) (or-left (leb kinds (a .kind)) _ (passed (badKind a) BadKind _ e .0))
+
+  -- It is not longer than names may be.
+  pub shape-size : shapeRefusal s a ≡ none → size a ≤ limit s
+  unfolding shapeRefusal
+  shape-size e = ltb-false (limit s) (size a) (passed (ltb (limit s) (size a)) TooLong none (passed (badKind a) BadKind _ e .1) .0)

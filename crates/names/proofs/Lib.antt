@@ -1,4 +1,3 @@
 pub mod Checks
 pub mod Pairs
 pub mod Rows
-pub mod Tags

@@ -1,3 +1,2 @@
 pub mod Checks
 pub mod Given
-pub mod Tags

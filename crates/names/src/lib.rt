@@ -1,9 +1,8 @@
-// A name's arguments: the kinds and their dictionaries, the check of refusals 4 to 7 in its two halves, where head and rest lie, and how a tag stands in its key.
+// A name's arguments: the kinds and their dictionaries, the check of refusals 4 to 7 in its two halves, and where head and rest lie.
 use bytes_dictionary::EntryId;
 use layout::KINDS;
 use layout::Sizes;
 use meta_dv_dict::LocalId;
-use parts::Mode;
 use ranked_pair_iri_dv_dict::Head;
 use refusals::Refusal;
 use string_dv_dict::Checked;
@@ -16,10 +15,9 @@ ghost use Rattle.layout.specs.Sizes.{kinds, dictionaries};
 ghost use Rattle.string_dv_dict.specs.Answers.{checkedBy};
 ghost use Rattle.model.specs.Names.{entered};
 ghost use Rattle.model.specs.Kinds.{row};
-ghost use Rattle.model.specs.Steps.{badKind, checks};
+ghost use Rattle.model.specs.Steps.{badKind};
 ghost use Rattle.names.specs.Checks.{shapeRefusal, textRefusal};
 ghost use Rattle.names.specs.Given.{headSize, restBehind};
-ghost use Rattle.names.specs.Tags.{frontOf, modeOf};
 
 pub const IRI: usize = 0;
 
@@ -108,16 +106,6 @@ pub fn check_text(kind: usize, first: &[u8], second: &[u8]) -> Checked
     Checked::Legal
 }
 
-// Refusals 4 to 7 of a name.
-pub fn check_name(s: Sizes, kind: usize, first: &[u8], second: &[u8]) -> Checked
-    ensures { λ r. ⌜ r ≡ checkedBy (checks s (entered kind (now (first .entry)) (now (second .entry)))) ⌝ }
-{
-    if let Checked::Illegal(why) = check_shape(s, kind, first, second) {
-        return Checked::Illegal(why);
-    }
-    check_text(kind, first, second)
-}
-
 // How many bytes of a name's first part are its head, where its kind has heads.
 pub fn head_length(kind: usize, first: &[u8]) -> usize
     ensures { λ r. ⌜ (r ≡ headSize kind (now (first .entry))) × (r ≤ length (now (first .entry))) ⌝ }
@@ -141,23 +129,4 @@ pub fn rest_behind<'a>(kind: usize, first: &'a [u8], second: &'a [u8], n: usize)
         return second;
     }
     &first[n..]
-}
-
-// What stands in front of a stored tag: its length, or 0 for a long one.
-pub fn tag_front(tag: &[u8]) -> u8
-    ensures { λ r. ⌜ r ≡ frontOf (now (tag .entry)) ⌝ }
-{
-    let n = tag.len();
-    if n <= 127 { n as u8 } else { 0 }
-}
-
-// A long tag is escaped and closed.
-pub fn tag_mode(tag: &[u8]) -> Mode
-    ensures { λ r. ⌜ r ≡ modeOf (now (tag .entry)) ⌝ }
-{
-    if tag.len() <= 127 {
-        Mode::Raw
-    } else {
-        Mode::Closed
-    }
 }

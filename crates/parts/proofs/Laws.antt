@@ -1,5 +1,5 @@
 -- What escaping does to a list of bytes; stores and comparisons one form after the other. Assumes nothing.
-use Prim.Native.Nat.{ℕ, suc, _+_, _*_, _≤_, _<_}
+use Prim.Native.Nat.{ℕ, suc, _+_, _-_, _*_, _≤_, _<_}
 use mathlib.Core.Path.{_≡_, refl, sym, _∙_, ap}
 use mathlib.Core.Logic.{_⊎_, inl, inr, _≢_}
 use mathlib.Core.Bool.{Bool, true, false, _&&_}
@@ -7,14 +7,17 @@ use mathlib.Core.List.{[], _∷_, _++_, append-assoc, append-nil}
 use native.Mathlib.Nat.{zero-add}
 use native.Mathlib.Numerals.{add-one}
 use native.Mathlib.Omega.{arith}
-use lib.Dec.{eqb}
-use lib.ListN.{length, getD, take, drop, set, length-append, length-take, take-append-drop, drop-of-length-le}
-use lib.Seq.{sets, sets-eq, take-suc, drop-cons}
-use borrow.Author.Tests.{eqb-true, eqb-false}
+use lib.Dec.{eqb, leb}
+use lib.ListN.{length, getD, take, drop, set, length-append, length-set, length-take, length-drop, take-append-drop, drop-of-length-le}
+use lib.Seq.{sets, sets-eq, take-suc, take-all, drop-cons}
+use borrow.Author.Tests.{eqb-true, eqb-false, le-leb, lt-leb, leb-true, leb-false}
 use Rattle.slices.specs.Bytes.{Bytes, sameBytes}
 use Rattle.slices.proofs.Bytes.{bytes-true}
+use Rattle.slices.proofs.Sets.{sets-mid}
 use Rattle.slices.proofs.Tests.{Split, split}
-use Rattle.parts.specs.Parts.{escape, escaped}
+use Rattle.parts.specs.declared.Mode.{Mode}
+use Rattle.parts.specs.declared.Mode.the-variants.{Raw, Tag}
+use Rattle.parts.specs.Parts.{escape, escaped, shortTag, longTag, tagBytes, bytesOf}
 
 -- The three ways in which a byte is stored.
 abbrev pub EscapeCases : ℕ → Type 0
@@ -114,3 +117,41 @@ same-length (a ∷ x) (b ∷ y) n = go (split (eqb a b)) (same-length x y (λ e.
     go : Split (eqb a b) → sameBytes x y ≡ false → (eqb a b && sameBytes x y) ≡ false
     go (inl p) ih = rw p ih
     go (inr p) ih = rw p
+
+-- ---- a tag in front of its text: a byte, and what stands behind it
+
+pub tag-short : (tag : Bytes) → length tag ≤ 127 → tagBytes tag ≡ shortTag tag
+unfolding tagBytes
+tag-short tag h = rw (le-leb (length tag) 127 h)
+
+pub tag-long : (tag : Bytes) → 127 < length tag → tagBytes tag ≡ longTag tag
+unfolding tagBytes
+tag-long tag h = rw (lt-leb (length tag) 127 h)
+
+-- Stores behind a byte, in a part that was lent and has come back.
+pub sets-behind : (n : ℕ) (x d : Bytes) → suc (length x) ≤ length d →
+    let l = set d 0 n in
+    let k = length l - 1 in
+    take 1 l ++ (sets (take k (drop 1 l)) 0 x ++ drop k (drop 1 l)) ≡ sets d 0 (n ∷ x)
+sets-behind n x d h =
+    let e : length (set d 0 n) ≡ length d = simp length-set in
+    sets-mid x (set d 0 n) 1 (length (set d 0 n) - 1) (omega (arith, e)) (omega (arith, e))
+
+-- The first byte is another one.
+pub same-not : (n : ℕ) (x t : Bytes) → sameBytes (n ∷ []) (take 1 t) ≡ false → false ≡ sameBytes (n ∷ x) t
+same-not n x t e = sym (same-append (n ∷ []) x t ∙ rw e)
+
+-- The first byte is the same, and the bytes behind it are compared.
+pub same-behind : (n : ℕ) (x t : Bytes) → sameBytes (n ∷ []) (take 1 t) ≡ true → sameBytes x (take (length t - 1) (drop 1 t)) ≡ sameBytes (n ∷ x) t
+same-behind n x t e =
+    let w : take (length t - 1) (drop 1 t) ≡ drop 1 t = take-all (length t - 1) (drop 1 t) (simp length-drop (omega arith)) in
+    rw w (sym (same-append (n ∷ []) x t ∙ rw e))
+
+pub length-bytes : (m : Mode) (s : Bytes) → length (bytesOf m s) ≤ 2 * length s + 2
+unfolding bytesOf
+length-bytes Raw s = omega arith
+length-bytes Tag s = go (split (leb (length s) 127))
+  where
+    go : Split (leb (length s) 127) → length (tagBytes s) ≤ 2 * length s + 2
+    go (inl p) = rw (tag-short s (leb-true _ _ p)) (omega arith)
+    go (inr p) = rw (tag-long s (leb-false _ _ p)) (omega (arith, length-escaped s, length-append (escaped s) (62 ∷ [])))

@@ -2,10 +2,11 @@
 use Prim.Native.Nat.{ℕ}
 use mathlib.Core.Bool.{cond}
 use mathlib.Core.List.{[], _∷_, _++_}
-use lib.Dec.{eqb}
+use lib.Dec.{eqb, leb}
+use lib.ListN.{length}
 use Rattle.slices.specs.Bytes.{Bytes}
 use Rattle.parts.specs.declared.Mode.{Mode}
-use Rattle.parts.specs.declared.Mode.the-variants.{Raw, Escaped, Closed}
+use Rattle.parts.specs.declared.Mode.the-variants.{Raw, Tag}
 use Rattle.parts.specs.declared.Stored.{Stored}
 use Rattle.parts.specs.declared.Stored.the-variants.{One, Two}
 
@@ -17,11 +18,19 @@ unfoldable pub escaped : Bytes → Bytes
 escaped [] = []
 escaped (b ∷ s) = escape b ++ escaped s
 
--- Closed: a long tag with the '>' that ends it.
+-- A tag in front of its text. Up to 127 bytes: length byte, tag. Longer: 0, the tag escaped, '>'.
+abbrev pub shortTag : Bytes → Bytes
+shortTag tag = length tag ∷ tag
+
+abbrev pub longTag : Bytes → Bytes
+longTag tag = 0 ∷ escaped tag ++ 62 ∷ []
+
+unfoldable pub tagBytes : Bytes → Bytes
+tagBytes tag = cond (leb (length tag) 127) (shortTag tag) (longTag tag)
+
 unfoldable pub bytesOf : Mode → Bytes → Bytes
 bytesOf Raw s = s
-bytesOf Escaped s = escaped s
-bytesOf Closed s = escaped s ++ 62 ∷ []
+bytesOf Tag s = tagBytes s
 
 -- The bytes that the code's answer for one byte holds.
 abbrev pub storedBytes : Stored → Bytes

@@ -1,19 +1,21 @@
 // A part of a name as it is stored: a slice with a mode. The loops that know the modes are here, and no others.
 ghost use mathlib.Core.Path.{_≡_};
 ghost use mathlib.Core.List.{[], _∷_, _++_};
-ghost use Prim.Native.Nat.{_+_, _≤_};
+ghost use Prim.Native.Nat.{_+_, _^_, _≤_, _<_};
 ghost use lib.ListN.{length, take, drop};
 ghost use lib.Seq.{sets};
 ghost use Rattle.fnv.specs.Fnv.{fnvFrom};
 ghost use Rattle.slices.specs.Bytes.{sameBytes};
-ghost use Rattle.parts.specs.Parts.{escape, escaped, bytesOf, storedBytes};
+ghost use Rattle.parts.specs.Parts.{escape, escaped, shortTag, longTag, tagBytes, bytesOf, storedBytes};
 
 pub enum Mode {
     Raw,
-    Escaped,
-    // A long tag with the '>' that ends it.
-    Closed,
+    // A tag as it stands in front of its text.
+    Tag,
 }
+
+// The most bytes of a tag that has its length in front of it.
+const SHORT: usize = 127;
 
 // One byte as it is stored.
 enum Stored {
@@ -60,14 +62,25 @@ fn measure_closed(s: &[u8]) -> usize
     measure_escaped(s) + 1
 }
 
-// How many bytes are stored.
+fn measure_tag(s: &[u8]) -> usize
+    requires { ⌜ length (tagBytes (now s)) < 2 ^ 64 ⌝ }
+    ensures { λ r. ⌜ r ≡ length (tagBytes (now (s .entry))) ⌝ }
+{
+    if s.len() <= SHORT {
+        1 + s.len()
+    } else {
+        1 + measure_closed(s)
+    }
+}
+
+// How many bytes are stored. A tag may have twice as many, and two, which may be more than can be counted.
 pub fn measure(mode: Mode, s: &[u8]) -> usize
+    requires { ⌜ length (bytesOf mode (now s)) < 2 ^ 64 ⌝ }
     ensures { λ r. ⌜ r ≡ length (bytesOf mode (now (s .entry))) ⌝ }
 {
     match mode {
         Mode::Raw => s.len(),
-        Mode::Escaped => measure_escaped(s),
-        Mode::Closed => measure_closed(s),
+        Mode::Tag => measure_tag(s),
     }
 }
 
@@ -120,6 +133,33 @@ fn write_closed(s: &[u8], dst: &mut [u8])
     dst[measure_escaped(s)] = b'>';
 }
 
+fn write_short(s: &[u8], dst: &mut [u8])
+    requires { ⌜ (length (now s) ≤ 127) × (length (shortTag (now s)) ≤ length (now dst)) ⌝ }
+    ensures { λ _. ⌜ now (dst .exit) ≡ sets (now (dst .entry)) 0 (shortTag (now (s .entry))) ⌝ }
+{
+    dst[0] = s.len() as u8;
+    write_raw(s, &mut dst[1..]);
+}
+
+fn write_long(s: &[u8], dst: &mut [u8])
+    requires { ⌜ length (longTag (now s)) ≤ length (now dst) ⌝ }
+    ensures { λ _. ⌜ now (dst .exit) ≡ sets (now (dst .entry)) 0 (longTag (now (s .entry))) ⌝ }
+{
+    dst[0] = 0;
+    write_closed(s, &mut dst[1..]);
+}
+
+fn write_tag(s: &[u8], dst: &mut [u8])
+    requires { ⌜ length (tagBytes (now s)) ≤ length (now dst) ⌝ }
+    ensures { λ _. ⌜ now (dst .exit) ≡ sets (now (dst .entry)) 0 (tagBytes (now (s .entry))) ⌝ }
+{
+    if s.len() <= SHORT {
+        write_short(s, dst);
+    } else {
+        write_long(s, dst);
+    }
+}
+
 // Writes the stored bytes at the front of dst, and leaves what is past them.
 pub fn write(mode: Mode, s: &[u8], dst: &mut [u8])
     requires { ⌜ length (bytesOf mode (now s)) ≤ length (now dst) ⌝ }
@@ -127,8 +167,7 @@ pub fn write(mode: Mode, s: &[u8], dst: &mut [u8])
 {
     match mode {
         Mode::Raw => write_raw(s, dst),
-        Mode::Escaped => write_escaped(s, dst),
-        Mode::Closed => write_closed(s, dst),
+        Mode::Tag => write_tag(s, dst),
     }
 }
 
@@ -159,14 +198,23 @@ fn hash_closed(start: u32, s: &[u8]) -> u32
     fnv::fnv_step(hash_escaped(start, s), b'>')
 }
 
+fn hash_tag(start: u32, s: &[u8]) -> u32
+    ensures { λ r. ⌜ r ≡ fnvFrom start (tagBytes (now (s .entry))) ⌝ }
+{
+    if s.len() <= SHORT {
+        fnv::fnv_from(fnv::fnv_step(start, s.len() as u8), s)
+    } else {
+        hash_closed(fnv::fnv_step(start, 0), s)
+    }
+}
+
 // The hash `start` taken on over the stored bytes.
 pub fn hash_on(start: u32, mode: Mode, s: &[u8]) -> u32
     ensures { λ r. ⌜ r ≡ fnvFrom start (bytesOf mode (now (s .entry))) ⌝ }
 {
     match mode {
         Mode::Raw => fnv::fnv_from(start, s),
-        Mode::Escaped => hash_escaped(start, s),
-        Mode::Closed => hash_closed(start, s),
+        Mode::Tag => hash_tag(start, s),
     }
 }
 
@@ -242,13 +290,41 @@ fn same_closed(s: &[u8], stored: &[u8]) -> bool
     same_escaped(s, &stored[..n])
 }
 
+fn same_short(s: &[u8], stored: &[u8]) -> bool
+    requires { ⌜ length (now s) ≤ 127 ⌝ }
+    ensures { λ r. ⌜ r ≡ sameBytes (shortTag (now (s .entry))) (now (stored .entry)) ⌝ }
+{
+    if !byte_stands(stored, 0, s.len() as u8) {
+        return false;
+    }
+    same_raw(s, &stored[1..])
+}
+
+fn same_long(s: &[u8], stored: &[u8]) -> bool
+    ensures { λ r. ⌜ r ≡ sameBytes (longTag (now (s .entry))) (now (stored .entry)) ⌝ }
+{
+    if !byte_stands(stored, 0, 0) {
+        return false;
+    }
+    same_closed(s, &stored[1..])
+}
+
+fn same_tag(s: &[u8], stored: &[u8]) -> bool
+    ensures { λ r. ⌜ r ≡ sameBytes (tagBytes (now (s .entry))) (now (stored .entry)) ⌝ }
+{
+    if s.len() <= SHORT {
+        same_short(s, stored)
+    } else {
+        same_long(s, stored)
+    }
+}
+
 // Whether the stored bytes are these.
 pub fn same(mode: Mode, s: &[u8], stored: &[u8]) -> bool
     ensures { λ r. ⌜ r ≡ sameBytes (bytesOf mode (now (s .entry))) (now (stored .entry)) ⌝ }
 {
     match mode {
         Mode::Raw => same_raw(s, stored),
-        Mode::Escaped => same_escaped(s, stored),
-        Mode::Closed => same_closed(s, stored),
+        Mode::Tag => same_tag(s, stored),
     }
 }

@@ -60,8 +60,8 @@ key-of st a k lead rest e r =
 
 -- ---- the search for a key
 
--- A key that is one part only.
-pub at-raw : (s : Sizes) (d e : ℕ) (pages lists nothing key : Bytes) (r : Probe) → d ≡ e → nothing ≡ [] → Searched s d pages lists (keyOf nothing Raw nothing key) r
+-- A key without a front.
+pub at-raw : (s : Sizes) (d e : ℕ) (pages lists nothing key : Bytes) (r : Probe) → d ≡ e → nothing ≡ [] → Searched s d pages lists (keyOf Raw nothing key) r
     → Searched s e pages lists key r
 unfolding bytesOf
 at-raw s d e pages lists nothing key r p n h = rw (p, n) at h

@@ -1,7 +1,7 @@
 -- The frequent id of a head's number, as the search writes it in front of the rest, and the hash of such a key. Assumes nothing.
-use Prim.Native.Nat.{ℕ, _≤_, _<_}
+use Prim.Native.Nat.{ℕ, _^_, _≤_, _<_}
 use mathlib.Core.Path.{_≡_, refl, sym, ap, _∙_}
-use mathlib.Core.List.{[], _++_, append-nil}
+use mathlib.Core.List.{[], _++_}
 use mathlib.Core.Option.{none}
 use native.Mathlib.Omega.{arith}
 use lib.ListN.{length, take, drop}
@@ -19,16 +19,21 @@ use Rattle.refusals.specs.Written.{writtenBy}
 use Rattle.ranked_pair_dictionary.specs.FrequentId.{fid, writeRefusal, writeAnswer, writeBuffer}
 use Rattle.ranked_pair_dictionary.proofs.Laws.{further-le, length-fid, write-done}
 
-pub raw-key : (front rest : Bytes) → keyOf front Raw [] rest ≡ front ++ rest
+pub raw-key : (front rest : Bytes) → keyOf Raw front rest ≡ front ++ rest
 unfolding bytesOf
-raw-key front rest = rw append-nil
+raw-key front rest = refl
 
 -- The hash of the front is taken on over the rest.
-pub raw-hash : (front rest : Bytes) (g h : ℕ) → g ≡ fnvOf front → h ≡ fnvFrom g rest → h ≡ fnvOf (keyOf front Raw [] rest)
+pub raw-hash : (front rest : Bytes) (g h : ℕ) → g ≡ fnvOf front → h ≡ fnvFrom g rest → h ≡ fnvOf (keyOf Raw front rest)
 raw-hash front rest g h p q = q ∙ ap (λ (x : ℕ). fnvFrom x rest) p ∙ sym (ap fnvOf (raw-key front rest) ∙ fnv-of-append front rest)
 
-pub whole-hash : (key : Bytes) (h : ℕ) → h ≡ fnvOf key → h ≡ fnvOf (keyOf [] Raw [] key)
+pub whole-hash : (key : Bytes) (h : ℕ) → h ≡ fnvOf key → h ≡ fnvOf (keyOf Raw [] key)
 whole-hash key h p = p ∙ ap fnvOf (sym (raw-key [] key))
+
+-- A front of a few bytes can be counted.
+pub raw-short : (front : Bytes) → length front ≤ 4 → length (bytesOf Raw front) < 2 ^ 64
+unfolding bytesOf
+raw-short front h = omega arith
 
 pub lead-short : (f : ℕ) → length (fid f) ≤ 4
 lead-short f = omega (arith, length-fid f, further-le f)
@@ -54,5 +59,5 @@ module _ (f : ℕ) (buffer : Bytes) (small : f < 1073741824) (room : 4 ≤ lengt
       let e : Refused why ≡ Length (length (fid f)) = sym q ∙ p ∙ lead-answer in
       let z : _≡_ {A = ℕ} 0 1 = cc in omega arith
 
-  pub lead-key : (lead rest : Bytes) (n : ℕ) → lead ≡ writeBuffer f buffer → n ≡ length (fid f) → keyOf (take n lead) Raw [] rest ≡ fid f ++ rest
+  pub lead-key : (lead rest : Bytes) (n : ℕ) → lead ≡ writeBuffer f buffer → n ≡ length (fid f) → keyOf Raw (take n lead) rest ≡ fid f ++ rest
   lead-key lead rest n p q = raw-key (take n lead) rest ∙ rw (p, q, lead-bytes)

@@ -9,7 +9,11 @@ use parts::Mode;
 use refusals::Written;
 ghost use mathlib.Core.Path.{_≡_};
 ghost use mathlib.Core.Bool.{true};
+ghost use Prim.Native.Nat.{_+_, _^_, _≤_, _<_};
+ghost use lib.ListN.{length};
 ghost use Rattle.fnv.specs.Fnv.{fnvOf};
+ghost use Rattle.limits.specs.Limits.{nameLimit};
+ghost use Rattle.parts.specs.Parts.{bytesOf};
 ghost use Rattle.bytes_index.specs.Search.{keyOf, Searched};
 ghost use Rattle.model.specs.Names.{entered};
 ghost use Rattle.model.specs.Kinds.{row};
@@ -34,7 +38,6 @@ pub fn find_head(pages: &[u8], lists: &[u8], s: Sizes, k: usize, head: &[u8]) ->
         s,
         names::head_dictionary(k),
         fnv::fnv(head),
-        none,
         Mode::Raw,
         none,
         head,
@@ -48,16 +51,15 @@ fn find_key(
     s: Sizes,
     k: usize,
     h: u32,
-    prefix: &[u8],
     mode: Mode,
-    tag: &[u8],
+    front: &[u8],
     rest: &[u8],
 ) -> Search
-    requires { ⌜ Lent s (now pages) (now lists) k × (h ≡ fnvOf (keyOf (now prefix) mode (now tag) (now rest))) ⌝ }
-    ensures { λ r. ⌜ FindsKey s (now (pages .entry)) (now (lists .entry)) k (keyOf (now (prefix .entry)) mode (now (tag .entry)) (now (rest .entry))) r ⌝ }
+    requires { ⌜ Lent s (now pages) (now lists) k × (h ≡ fnvOf (keyOf mode (now front) (now rest))) × (length (bytesOf mode (now front)) < 2 ^ 64) ⌝ }
+    ensures { λ r. ⌜ FindsKey s (now (pages .entry)) (now (lists .entry)) k (keyOf mode (now (front .entry)) (now (rest .entry))) r ⌝ }
 {
     let d = names::main_dictionary(k);
-    match bytes_index::bytes_to_id(pages, lists, s, d, h, prefix, mode, tag, rest) {
+    match bytes_index::bytes_to_id(pages, lists, s, d, h, mode, front, rest) {
         Probe::At(i) => Search::Found(names::entry_to_local(EntryId(i))),
         Probe::Free(_) => Search::Nothing,
         Probe::Bad => Search::Bad,
@@ -77,17 +79,7 @@ fn find_pair(pages: &[u8], lists: &[u8], s: Sizes, k: usize, head: &[u8], rest: 
                 return Search::Bad;
             };
             let h = fnv::fnv_from(fnv::fnv(&lead[..n]), rest);
-            find_key(
-                pages,
-                lists,
-                s,
-                k,
-                h,
-                &lead[..n],
-                Mode::Raw,
-                &rest[..0],
-                rest,
-            )
+            find_key(pages, lists, s, k, h, Mode::Raw, &lead[..n], rest)
         }
         Probe::Free(_) => Search::Nothing,
         Probe::Bad => Search::Bad,
@@ -95,16 +87,14 @@ fn find_pair(pages: &[u8], lists: &[u8], s: Sizes, k: usize, head: &[u8], rest: 
 }
 
 fn find_tagged(pages: &[u8], lists: &[u8], s: Sizes, text: &[u8], tag: &[u8]) -> Search
-    requires { ⌜ Lent s (now pages) (now lists) 2 ⌝ }
+    requires { ⌜ Lent s (now pages) (now lists) 2 × (length (now text) + length (now tag) ≤ nameLimit) ⌝ }
     ensures { λ r. ⌜ FindsName s (λ a. a ≡ entered 2 (now (text .entry)) (now (tag .entry))) (now (pages .entry)) (now (lists .entry)) r ⌝ }
 {
-    let front = [names::tag_front(tag)];
-    let mode = names::tag_mode(tag);
-    let h = bytes_index::hash(&front, mode, tag, text);
-    find_key(pages, lists, s, TAGGED, h, &front, mode, tag, text)
+    let h = bytes_index::hash(Mode::Tag, tag, text);
+    find_key(pages, lists, s, TAGGED, h, Mode::Tag, tag, text)
 }
 
-// The local number of a legal name. Both parts have one lifetime, since the rest may lie in either.
+// The local number of a legal name. Only its shape is asked for: whether it is text may be told later. Both parts have one lifetime, since the rest may lie in either.
 pub fn find_name<'a>(
     pages: &[u8],
     lists: &[u8],
@@ -113,22 +103,13 @@ pub fn find_name<'a>(
     first: &'a [u8],
     second: &'a [u8],
 ) -> Search
-    requires { ⌜ Lent s (now pages) (now lists) kind ⌝ }
+    requires { ⌜ Lent s (now pages) (now lists) kind × (length (now first) + length (now second) ≤ nameLimit) ⌝ }
     ensures { λ r. ⌜ FindsName s (λ a. a ≡ entered kind (now (first .entry)) (now (second .entry))) (now (pages .entry)) (now (lists .entry)) r ⌝ }
 {
     if kind == PLAIN {
         let none = &first[..0];
-        return find_key(
-            pages,
-            lists,
-            s,
-            PLAIN,
-            fnv::fnv(first),
-            none,
-            Mode::Raw,
-            none,
-            first,
-        );
+        let h = fnv::fnv(first);
+        return find_key(pages, lists, s, PLAIN, h, Mode::Raw, none, first);
     }
     if kind == TAGGED {
         return find_tagged(pages, lists, s, first, second);

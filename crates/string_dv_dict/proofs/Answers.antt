@@ -1,15 +1,14 @@
 -- The answer and the buffer that each way through packing and unpacking comes to. Assumes nothing.
 use Prim.Native.Nat.{ℕ, _+_, _≤_, _<_}
-use mathlib.Core.Path.{_≡_, refl, sym, ap, _∙_}
+use mathlib.Core.Path.{_≡_, refl}
 use mathlib.Core.Bool.{true, false}
-use mathlib.Core.List.{_∷_, _++_}
+use mathlib.Core.List.{_++_}
 use mathlib.Core.Option.{Option, none, some}
 use native.Mathlib.Omega.{arith}
-use lib.ListN.{length, drop, length-append}
-use borrow.Author.Tests.{lt-ltb, le-ltb, le-leb, lt-leb}
+use lib.ListN.{length, drop}
+use borrow.Author.Tests.{lt-ltb, le-ltb}
 use Rattle.slices.specs.Bytes.{Bytes}
 use Rattle.limits.specs.Limits.{packedLimit}
-use Rattle.parts.specs.Parts.{escaped}
 use Rattle.refusals.specs.declared.Refusal.{Refusal}
 use Rattle.refusals.specs.declared.Refusal.the-variants.{TooLong, ShortBuffer, CutForm}
 use Rattle.refusals.specs.declared.Written.the-variants as W
@@ -31,49 +30,22 @@ told-illegal (some r) why e = cc
 
 -- ---- packing
 
-module _ (text tag : Bytes) where
-  packed-short : length tag ≤ 127 → packed text tag ≡ length tag ∷ tag ++ text
-  unfolding packed
-  packed-short h = rw (le-leb (length tag) 127 h)
+module _ (text tag buffer : Bytes) where
+  pub pack-refused : (why : Refusal) → pairRefusal text tag ≡ some why
+      → (packAnswer text tag (length buffer) ≡ W.Refused why) × (packBuffer text tag buffer ≡ buffer)
+  unfolding packAnswer packBuffer
+  pack-refused why e = rw e (refl, refl)
 
-  packed-long : 127 < length tag → packed text tag ≡ 0 ∷ escaped tag ++ 62 ∷ text
-  unfolding packed
-  packed-long h = rw (lt-leb (length tag) 127 h)
+  pub pack-no-room : pairRefusal text tag ≡ none → length buffer < length (packed text tag)
+      → (packAnswer text tag (length buffer) ≡ W.Refused ShortBuffer) × (packBuffer text tag buffer ≡ buffer)
+  unfolding packAnswer packBuffer
+  pack-no-room e h = rw (e, lt-ltb _ _ h) (refl, refl)
 
-  pub length-short : length tag ≤ 127 → 1 + length tag + length text ≡ length (packed text tag)
-  length-short h = rw (packed-short h) (simp length-append (omega arith))
-
-  pub length-long : 127 < length tag → 2 + length (escaped tag) + length text ≡ length (packed text tag)
-  length-long h = rw (packed-long h) (simp length-append (omega arith))
-
-  module _ (buffer : Bytes) where
-    pub placed-short : length tag ≤ 127
-        → (length tag ∷ tag ++ text) ++ drop (1 + length tag + length text) buffer ≡ packed text tag ++ drop (length (packed text tag)) buffer
-    placed-short h =
-        ap (λ (f : Bytes). f ++ drop (1 + length tag + length text) buffer) (sym (packed-short h))
-        ∙ ap (λ (n : ℕ). packed text tag ++ drop n buffer) (length-short h)
-
-    pub placed-long : 127 < length tag
-        → (0 ∷ escaped tag ++ 62 ∷ text) ++ drop (2 + length (escaped tag) + length text) buffer ≡ packed text tag ++ drop (length (packed text tag)) buffer
-    placed-long h =
-        ap (λ (f : Bytes). f ++ drop (2 + length (escaped tag) + length text) buffer) (sym (packed-long h))
-        ∙ ap (λ (n : ℕ). packed text tag ++ drop n buffer) (length-long h)
-
-    pub pack-refused : (why : Refusal) → pairRefusal text tag ≡ some why
-        → (packAnswer text tag (length buffer) ≡ W.Refused why) × (packBuffer text tag buffer ≡ buffer)
-    unfolding packAnswer packBuffer
-    pack-refused why e = rw e (refl, refl)
-
-    pub pack-no-room : pairRefusal text tag ≡ none → length buffer < length (packed text tag)
-        → (packAnswer text tag (length buffer) ≡ W.Refused ShortBuffer) × (packBuffer text tag buffer ≡ buffer)
-    unfolding packAnswer packBuffer
-    pack-no-room e h = rw (e, lt-ltb _ _ h) (refl, refl)
-
-    pub pack-done : pairRefusal text tag ≡ none → length (packed text tag) ≤ length buffer
-        → (packAnswer text tag (length buffer) ≡ W.Length (length (packed text tag)))
-        × (packBuffer text tag buffer ≡ packed text tag ++ drop (length (packed text tag)) buffer)
-    unfolding packAnswer packBuffer
-    pack-done e h = rw (e, le-ltb _ _ h) (refl, refl)
+  pub pack-done : pairRefusal text tag ≡ none → length (packed text tag) ≤ length buffer
+      → (packAnswer text tag (length buffer) ≡ W.Length (length (packed text tag)))
+      × (packBuffer text tag buffer ≡ packed text tag ++ drop (length (packed text tag)) buffer)
+  unfolding packAnswer packBuffer
+  pack-done e h = rw (e, le-ltb _ _ h) (refl, refl)
 
 -- ---- unpacking
 

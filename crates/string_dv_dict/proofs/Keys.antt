@@ -1,20 +1,30 @@
--- A packed form in the three parts of a stored key: prefix, tag with its mode, and rest. Assumes nothing.
-use Prim.Native.Nat.{_<_, _≤_}
+-- A packed form is the tag as it stands in front of its text, and the text. Assumes nothing.
+use Prim.Native.Nat.{_+_, _≤_}
 use mathlib.Core.Path.{_≡_, sym, ap}
+use mathlib.Core.Logic.{inl, inr}
 use mathlib.Core.List.{[], _∷_, _++_, append-assoc}
-use borrow.Author.Tests.{le-leb, lt-leb}
-use lib.ListN.{length}
+use lib.Dec.{leb}
+use lib.ListN.{length, drop, length-append}
+use lib.Seq.{sets}
 use Rattle.slices.specs.Bytes.{Bytes}
-use Rattle.parts.specs.declared.Mode.the-variants.{Raw, Closed}
-use Rattle.parts.specs.Parts.{escaped, bytesOf}
+use Rattle.slices.proofs.Tests.{Split, split}
+use Rattle.parts.specs.declared.Mode.the-variants.{Tag}
+use Rattle.parts.specs.Parts.{escaped, tagBytes, bytesOf}
 use Rattle.string_dv_dict.specs.Packed.{packed}
+use Rattle.string_dv_dict.proofs.Writes.{two}
 
--- The prefix of a short tag is its length, and the tag stands as it is.
-pub short-key : (text tag : Bytes) → length tag ≤ 127 → packed text tag ≡ (length tag ∷ []) ++ bytesOf Raw tag ++ text
-unfolding packed bytesOf
-short-key text tag h = rw (le-leb (length tag) 127 h)
+pub packed-key : (text tag : Bytes) → packed text tag ≡ bytesOf Tag tag ++ text
+unfolding packed tagBytes bytesOf
+packed-key text tag = go (split (leb (length tag) 127))
+  where
+    go : Split (leb (length tag) 127) → packed text tag ≡ bytesOf Tag tag ++ text
+    go (inl p) = rw p
+    go (inr p) = rw p (ap (λ (s : Bytes). 0 ∷ s) (sym (append-assoc (escaped tag) (62 ∷ []) text)))
 
--- The prefix of a long tag is 0, and the tag is closed.
-pub long-key : (text tag : Bytes) → 127 < length tag → packed text tag ≡ (0 ∷ []) ++ bytesOf Closed tag ++ text
-unfolding packed bytesOf
-long-key text tag h = rw (lt-leb (length tag) 127 h) (ap (λ (s : Bytes). 0 ∷ s) (sym (append-assoc (escaped tag) (62 ∷ []) text)))
+pub length-key : (text tag : Bytes) → length (bytesOf Tag tag) + length text ≡ length (packed text tag)
+length-key text tag = rw (packed-key text tag) (sym (length-append (bytesOf Tag tag) text))
+
+-- Both stored from a buffer's start, one behind the other.
+pub placed-key : (text tag b : Bytes) → length (bytesOf Tag tag) + length text ≤ length b
+    → sets (sets b 0 (bytesOf Tag tag)) (length (bytesOf Tag tag)) text ≡ packed text tag ++ drop (length (packed text tag)) b
+placed-key text tag b h = rw (packed-key text tag) (two (bytesOf Tag tag) text b h)

@@ -3,16 +3,14 @@ use parts::Mode;
 use refusals::Refusal;
 use refusals::Written;
 ghost use mathlib.Core.Path.{_≡_};
-ghost use mathlib.Core.List.{_∷_, _++_};
 ghost use mathlib.Core.Bool.{true, false};
-ghost use mathlib.Core.Option.{none};
 ghost use Prim.Native.Nat.{_+_, _^_, _≤_, _<_};
-ghost use lib.ListN.{length, drop};
+ghost use lib.ListN.{length};
 ghost use lib.Seq.{sets};
-ghost use Rattle.string_dv_dict.specs.Packed.{packed, pairRefusal, accepted, before, unescape, unescaped};
+ghost use Rattle.string_dv_dict.specs.Packed.{pairRefusal, accepted, before, unescape, unescaped};
 ghost use Rattle.string_dv_dict.specs.Answers.{checkedBy, packAnswer, packBuffer, unpackAnswer, unpackBuffer};
 ghost use Rattle.limits.specs.Limits.{packedLimit};
-ghost use Rattle.parts.specs.Parts.{escaped, bytesOf};
+ghost use Rattle.parts.specs.Parts.{bytesOf};
 ghost use Rattle.string_dv_dict.specs.Scans.{scanStep, scanFrom, scanned, longSplit, splitOf, formOf, ShortForm, LongForm};
 
 // Whether a text and a tag are a tagged string, or why not.
@@ -62,44 +60,12 @@ pub fn check_pair(text: &[u8], tag: &[u8]) -> Checked
 
 // ---- packing
 
-fn packed_length(text: &[u8], tag: &[u8]) -> usize
-    requires { ⌜ pairRefusal (now text) (now tag) ≡ none ⌝ }
-    ensures { λ r. ⌜ r ≡ length (packed (now (text .entry)) (now (tag .entry))) ⌝ }
-{
-    if tag.len() <= 127 {
-        1 + tag.len() + text.len()
-    } else {
-        2 + parts::measure(Mode::Escaped, tag) + text.len()
-    }
-}
-
 // Writes the stored bytes at `at`.
 fn write_at(mode: Mode, s: &[u8], dst: &mut [u8], at: usize)
     requires { ⌜ at + length (bytesOf mode (now s)) ≤ length (now dst) ⌝ }
     ensures { λ _. ⌜ now (dst .exit) ≡ sets (now (dst .entry)) at (bytesOf mode (now (s .entry))) ⌝ }
 {
     parts::write(mode, s, &mut dst[at..]);
-}
-
-fn write_short(text: &[u8], tag: &[u8], buffer: &mut [u8])
-    requires { ⌜ (length (now tag) ≤ 127) × (1 + length (now tag) + length (now text) ≤ length (now buffer)) ⌝ }
-    ensures { λ _. ⌜ now (buffer .exit) ≡ (length (now (tag .entry)) ∷ now (tag .entry) ++ now (text .entry)) ++ drop (1 + length (now (tag .entry)) + length (now (text .entry))) (now (buffer .entry)) ⌝ }
-{
-    let n = tag.len();
-    buffer[0] = n as u8;
-    write_at(Mode::Raw, tag, buffer, 1);
-    write_at(Mode::Raw, text, buffer, n + 1);
-}
-
-fn write_long(text: &[u8], tag: &[u8], buffer: &mut [u8])
-    requires { ⌜ 2 + length (escaped (now tag)) + length (now text) ≤ length (now buffer) ⌝ }
-    ensures { λ _. ⌜ now (buffer .exit) ≡ (0 ∷ escaped (now (tag .entry)) ++ 62 ∷ now (text .entry)) ++ drop (2 + length (escaped (now (tag .entry))) + length (now (text .entry))) (now (buffer .entry)) ⌝ }
-{
-    let end = 1 + parts::measure(Mode::Escaped, tag);
-    buffer[0] = 0;
-    write_at(Mode::Escaped, tag, buffer, 1);
-    buffer[end] = b'>';
-    write_at(Mode::Raw, text, buffer, end + 1);
 }
 
 // Packs a text and its tag at the buffer's start.
@@ -110,15 +76,13 @@ pub fn two_strings_to_one(text: &[u8], tag: &[u8], buffer: &mut [u8]) -> Written
     if let Checked::Illegal(why) = checked {
         return Written::Refused(why);
     }
-    let n = packed_length(text, tag);
+    let m = parts::measure(Mode::Tag, tag);
+    let n = m + text.len();
     if buffer.len() < n {
         return Written::Refused(Refusal::ShortBuffer);
     }
-    if tag.len() <= 127 {
-        write_short(text, tag, buffer);
-    } else {
-        write_long(text, tag, buffer);
-    }
+    write_at(Mode::Tag, tag, buffer, 0);
+    write_at(Mode::Raw, text, buffer, m);
     Written::Length(n)
 }
 

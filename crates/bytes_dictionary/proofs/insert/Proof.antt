@@ -14,13 +14,13 @@ use Rattle.bytes_dictionary.proofs.insert.Statement.{statement}
 use Rattle.bytes_dictionary.proofs.insert.Tie as tie
 
 -- The spot's page and offset, and that the key has room there.
-found : (c : tie.After-page) → roomOf (c .before .before .before .before .before .before .before .before .args .spot) ≡ At (c .page .given .0 .0) (c .page .given .0 .1 .0)
+found : (c : tie.After-page) → roomOf (c .before .before .before .before .before .before .before .args .spot) ≡ At (c .page .given .0 .0) (c .page .given .0 .1 .0)
 found c = sym (c .before .before .room-at .ensures) ∙ c .page .given .1
 
 fits : (c : tie.After-page) →
-    let a = c .before .before .before .before .before .before .before .before .args in
-    (c .page .given .0 .0 < a .s .n) × (c .page .given .0 .1 .0 + length (keyOf (a .prefix .now) (a .mode) (a .tag .now) (a .rest .now)) ≤ pageSize (a .s))
-fits c = let z = c .before .before .before .before .before .before .before .before in room-fits (z .args .s) _ (z .args .spot) _ _ (z .pre .1 .0) (found c)
+    let a = c .before .before .before .before .before .before .before .args in
+    (c .page .given .0 .0 < a .s .n) × (c .page .given .0 .1 .0 + length (keyOf (a .mode) (a .front .now) (a .rest .now)) ≤ pageSize (a .s))
+fits c = let z = c .before .before .before .before .before .before .before in room-fits (z .args .s) _ (z .args .spot) _ _ (z .pre .1 .0) (found c)
 
 room-at-requires : tie.Need-room-at-requires
 room-at-requires c κs = search needs
@@ -33,23 +33,23 @@ enum-told c = search needs
 
 returns : tie.Need-returns
 returns c =
-    let a = c .before .before .before .before .before .before .before .before .args in
-    after-none (a .s) (a .pages .now) (a .lists .now) (a .d) (a .n) (a .place) (a .spot) (a .stamp) (keyOf (a .prefix .now) (a .mode) (a .tag .now) (a .rest .now))
+    let a = c .before .before .before .before .before .before .before .args in
+    after-none (a .s) (a .pages .now) (a .lists .now) (a .x .d) (a .x .n) (a .x .place) (a .spot) (a .x .stamp) (keyOf (a .mode) (a .front .now) (a .rest .now))
     (sym (c .before .before .room-at .ensures) ∙ c .enum-told .given .1)
 
 write-at-requires : tie.Need-write-at-requires
-write-at-requires c κs = (c .before .before .before .before .before .before .before .before .before .before .before .pre .0, fits (c .before .before .before))
+write-at-requires c κs = (c .before .before .before .before .before .before .before .before .before .before .pre .0, fits (c .before .before .before))
 
 enum-told-2 : tie.Need-enum-told-2
 enum-told-2 c = search needs
 
 add-extend : tie.Need-add-extend
-add-extend c = omega (arith, fits (c .before .before .before .before .before .before .before .before .before .before .before), c .before .before .before .before .before .before .before .write-at .ensures .0, page-size _ (c .before .before .before .before .before .before .before .before .before .before .before .before .before .before .before .before .before .before .before .pre .0 .0 .ranged))
+add-extend c = omega (arith, fits (c .before .before .before .before .before .before .before .before .before .before .before), c .before .before .before .before .before .before .before .write-at .ensures .0, page-size _ (c .before .before .before .before .before .before .before .before .before .before .before .before .before .before .before .before .before .before .pre .0 .0 .ranged))
 
 extend-requires : tie.Need-extend-requires
 unfolding listBytes
 extend-requires c κs =
-    let p = c .before .before .before .before .before .before .before .before .before .before .before .before .before .before .before .before .before .before .before .pre in
+    let p = c .before .before .before .before .before .before .before .before .before .before .before .before .before .before .before .before .before .before .pre in
     let r = fits (c .before .before .before .before .before .before .before .before .before .before .before) in
     let l = c .before .before .before .before .before .before .before .write-at .ensures .0 in
     (omega (arith, r, p .0 .0 .lists-fit), omega (arith, r, l, page-size _ (p .0 .0 .ranged)))
@@ -60,7 +60,7 @@ enum-told-3 c = search needs
 take-page-requires : tie.Need-take-page-requires
 unfolding listBytes
 take-page-requires c κs =
-    let p = c .before .before .before .before .before .before .before .before .before .before .before .before .before .before .before .before .before .before .before .pre in
+    let p = c .before .before .before .before .before .before .before .before .before .before .before .before .before .before .before .before .before .before .pre in
     let r = fits (c .before .before .before .before .before .before .before .before .before .before .before) in
     let l = c .before .before .before .before .before .before .before .write-at .ensures .0 in
     (omega (arith, r, p .0 .0 .lists-fit), p .0 .0 .known, omega (arith, r, l, page-size _ (p .0 .0 .ranged)))
@@ -80,12 +80,12 @@ same-length-2 c = search needs
 returns-2 : tie.Need-returns-2
 returns-2 c =
     let g = c .before .before .before .before .before .before .before .before .before .before .before .before .before .before in
-    let a = g .before .before .before .before .before .before .before .before .args in
+    let a = g .before .before .before .before .before .before .before .args in
     let w = c .before .before .before .before .before .before .before .before .before .before .write-at in
-    after-current (a .s) (a .pages .now) (a .lists .now) (a .d) (a .n) (a .place) (a .spot) (a .stamp) (keyOf (a .prefix .now) (a .mode) (a .tag .now) (a .rest .now))
-    (g .page .given .0 .0) (g .page .given .0 .1 .0) (w .result) (a .h) _ _ _
+    after-current (a .s) (a .pages .now) (a .lists .now) (a .x .d) (a .x .n) (a .x .place) (a .spot) (a .x .stamp) (keyOf (a .mode) (a .front .now) (a .rest .now))
+    (g .page .given .0 .0) (g .page .given .0 .1 .0) (w .result) (a .x .h) _ _ _
     (room-current (a .spot) _ _ _ _ (c .before .before .before .before .enum-told2 .given .1) (found g))
-    (w .ensures .0) (g .before .before .before .before .before .before .before .before .pre .1 .1) (w .ensures .1 .0) (w .ensures .1 .1) (c .before .before .extend .ensures)
+    (w .ensures .0) (g .before .before .before .before .before .before .before .pre .1 .1) (w .ensures .1 .0) (w .ensures .1 .1) (c .before .before .extend .ensures)
 
 same-length-3 : tie.Need-same-length-3
 same-length-3 c = search needs
@@ -96,11 +96,11 @@ same-length-4 c = search needs
 returns-3 : tie.Need-returns-3
 returns-3 c =
     let g = c .before .before .before .before .before .before .before .before .before .before .before .before .before .before in
-    let a = g .before .before .before .before .before .before .before .before .args in
+    let a = g .before .before .before .before .before .before .before .args in
     let w = c .before .before .before .before .before .before .before .before .before .before .write-at in
     let n = room-next (a .spot) _ _ _ (c .before .before .before .before .enum-told3 .given .1) (found g) in
-    after-next (a .s) (a .pages .now) (a .lists .now) (a .d) (a .n) (a .place) (a .spot) (a .stamp) (keyOf (a .prefix .now) (a .mode) (a .tag .now) (a .rest .now))
-    (g .page .given .0 .0) (w .result) (a .h) _ _ _ (n .0) (w .ensures .0) (g .before .before .before .before .before .before .before .before .pre .1 .1) (rw (n .1) at (w .ensures .1 .0)) (rw (n .1) at (w .ensures .1 .1))
+    after-next (a .s) (a .pages .now) (a .lists .now) (a .x .d) (a .x .n) (a .x .place) (a .spot) (a .x .stamp) (keyOf (a .mode) (a .front .now) (a .rest .now))
+    (g .page .given .0 .0) (w .result) (a .x .h) _ _ _ (n .0) (w .ensures .0) (g .before .before .before .before .before .before .before .pre .1 .1) (rw (n .1) at (w .ensures .1 .0)) (rw (n .1) at (w .ensures .1 .1))
     (c .before .before .take-page .ensures)
 
 same-length-5 : tie.Need-same-length-5
@@ -113,7 +113,7 @@ same-length-6 c = search needs
 returns-4 : tie.Need-returns-4
 returns-4 c =
     let g = c .before .before .before .before .before .before .before .before .before .before in
-    absurd (subst IsSpot (c .enum-told4 .given .1) (room-spot (g .before .before .before .before .before .before .before .before .args .spot) (g .page .given .0 .0) (g .page .given .0 .1 .0) (found g)))
+    absurd (subst IsSpot (c .enum-told4 .given .1) (room-spot (g .before .before .before .before .before .before .before .args .spot) (g .page .given .0 .0) (g .page .given .0 .1 .0) (found g)))
 
 same-length-7 : tie.Need-same-length-7
 same-length-7 c = search needs
@@ -124,7 +124,7 @@ same-length-8 c = search needs
 returns-5 : tie.Need-returns-5
 returns-5 c =
     let g = c .before .before .before .before .before .before .before .before .before .before in
-    absurd (subst IsSpot (c .enum-told5 .given .1) (room-spot (g .before .before .before .before .before .before .before .before .args .spot) (g .page .given .0 .0) (g .page .given .0 .1 .0) (found g)))
+    absurd (subst IsSpot (c .enum-told5 .given .1) (room-spot (g .before .before .before .before .before .before .before .args .spot) (g .page .given .0 .0) (g .page .given .0 .1 .0) (found g)))
 
 pub insert-spec : {M : Type 1} → statement M
 insert-spec =

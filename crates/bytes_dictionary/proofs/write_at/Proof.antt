@@ -13,46 +13,45 @@ use Rattle.bytes_dictionary.proofs.write_at.Tie as tie
 
 -- The key's length is the sum that is computed, and small.
 sized : (c : tie.After-measure) →
-    let a = c .before .before .before .before .before .before .args in
-    let n = length (a .prefix .now) + c .measure .result + length (a .rest .now) in
-    (n ≡ length (keyOf (a .prefix .now) (a .mode) (a .tag .now) (a .rest .now))) × (a .offset + n ≤ 1048576)
+    let a = c .before .before .before .before .before .args in
+    let n = c .measure .result + length (a .rest .now) in
+    (n ≡ length (keyOf (a .mode) (a .front .now) (a .rest .now))) × (a .offset + n ≤ 1048576)
 sized c =
-    let z = c .before .before .before .before .before .before in
-    let l = length-key (z .args .prefix .now) (z .args .mode) (z .args .tag .now) (z .args .rest .now) in
+    let z = c .before .before .before .before .before in
+    let l = length-key (z .args .mode) (z .args .front .now) (z .args .rest .now) in
     (omega (arith, l, c .measure .ensures), omega (arith, l, c .measure .ensures, z .pre .1 .1, page-size (z .args .s) (z .pre .0 .0 .ranged)))
 
 -- The key ends inside the pages.
 placed : (c : tie.After-page-size) →
-    let a = c .before .before .before .before .before .before .before .args in
-    a .page * c .page-size .result + a .offset + length (keyOf (a .prefix .now) (a .mode) (a .tag .now) (a .rest .now)) ≤ pageBytes (a .s)
+    let a = c .before .before .before .before .before .before .args in
+    a .page * c .page-size .result + a .offset + length (keyOf (a .mode) (a .front .now) (a .rest .now)) ≤ pageBytes (a .s)
 placed c =
-    let z = c .before .before .before .before .before .before .before in
+    let z = c .before .before .before .before .before .before in
     rw (c .page-size .ensures) (omega (arith, in-pages (z .args .s) (z .args .page) _ (z .pre .1 .0) (z .pre .1 .1)))
 
 measure-requires : tie.Need-measure-requires
-measure-requires c κs = search needs
+measure-requires c κs =
+    let z = c .before .before .before .before in
+    omega (arith, length-key (z .args .mode) (z .args .front .now) (z .args .rest .now), z .pre .1 .1, page-size (z .args .s) (z .pre .0 .0 .ranged))
 
 add-len : tie.Need-add-len
 add-len c = omega (arith, sized c)
-
-add-len-2 : tie.Need-add-len-2
-add-len-2 c = omega (arith, sized c)
 
 page-size-requires : tie.Need-page-size-requires
 page-size-requires c κs = search needs
 
 mul-at : tie.Need-mul-at
-mul-at c = omega (arith, placed c, page-bytes _ (c .before .before .before .before .before .before .before .pre .0 .0 .ranged))
+mul-at c = omega (arith, placed c, page-bytes _ (c .before .before .before .before .before .before .pre .0 .0 .ranged))
 
 add-at : tie.Need-add-at
-add-at c = omega (arith, placed c, page-bytes _ (c .before .before .before .before .before .before .before .pre .0 .0 .ranged))
+add-at c = omega (arith, placed c, page-bytes _ (c .before .before .before .before .before .before .pre .0 .0 .ranged))
 
 write-key-requires : tie.Need-write-key-requires
-write-key-requires c κs = omega (arith, placed (c .before), c .before .before .before .before .before .before .before .before .pre .0 .0 .pages-fit)
+write-key-requires c κs = omega (arith, placed (c .before), c .before .before .before .before .before .before .before .pre .0 .0 .pages-fit)
 
 write-entry-requires : tie.Need-write-entry-requires
 write-entry-requires c κs =
-    let p = c .before .before .before .before .before .before .before .before .before .before .before .before .pre in
+    let p = c .before .before .before .before .before .before .before .before .before .before .before .pre in
     let l = sized (c .before .before .before .before .before .before) in
     ((p .0 .0 .ranged, p .0 .0 .lists-fit, p .0 .0 .known, p .0 .1, p .0 .2), (omega (arith, p .1 .0, p .0 .0 .ranged .n), omega (arith, l), omega (arith, l)))
 
@@ -71,7 +70,6 @@ write-at-spec =
     (tie.spec
     measure-requires
     add-len
-    add-len-2
     page-size-requires
     mul-at
     add-at

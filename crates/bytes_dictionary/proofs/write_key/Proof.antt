@@ -1,6 +1,6 @@
--- Each part is written behind the one before it. Assumes nothing.
+-- The rest is written behind the front. Assumes nothing.
 use Prim.Native.Nat.{ℕ, _+_, _≤_}
-use mathlib.Core.Path.{refl, ap}
+use mathlib.Core.Path.{ap}
 use native.Mathlib.Omega.{arith}
 use lib.ListN.{length}
 use Rattle.parts.specs.Parts.{bytesOf}
@@ -9,53 +9,42 @@ use borrow.Author.Needs.{needs}
 use Rattle.bytes_dictionary.proofs.write_key.Statement.{statement}
 use Rattle.bytes_dictionary.proofs.write_key.Tie as tie
 
--- The three parts end inside the pages.
+-- Both parts end inside the pages.
 sized : (c : tie.After-measure) →
-    let a = c .before .before .before .before .before .args in
-    a .at + length (a .prefix .now) + c .measure .result + length (a .rest .now) ≤ length (a .pages .now)
+    let a = c .before .before .before .before .args in
+    a .at + c .measure .result + length (a .rest .now) ≤ length (a .pages .now)
 sized c =
-    let a = c .before .before .before .before .before .args in
-    omega (arith, length-key (a .prefix .now) (a .mode) (a .tag .now) (a .rest .now), c .measure .ensures, c .before .before .before .before .before .pre)
-
-add-b : tie.Need-add-b
-add-b c = search needs
+    let z = c .before .before .before .before in
+    omega (arith, length-key (z .args .mode) (z .args .front .now) (z .args .rest .now), c .measure .ensures, z .pre)
 
 measure-requires : tie.Need-measure-requires
-measure-requires c κs = search needs
+measure-requires c κs =
+    let z = c .before .before .before in
+    omega (arith, length-key (z .args .mode) (z .args .front .now) (z .args .rest .now), z .pre, z .good)
 
-add-c : tie.Need-add-c
-add-c c = omega (arith, sized c)
+add-b : tie.Need-add-b
+add-b c = omega (arith, sized c, c .before .before .before .before .good)
 
 write-part-requires : tie.Need-write-part-requires
-unfolding bytesOf
-write-part-requires c κs = omega (arith, sized (c .before))
+write-part-requires c κs = omega (arith, sized (c .before), c .before .measure .ensures)
 
 write-part-requires-2 : tie.Need-write-part-requires-2
-write-part-requires-2 c κs = omega (arith, sized (c .before .before .before .before .before), c .before .before .before .before .before .measure .ensures)
-
-write-part-requires-3 : tie.Need-write-part-requires-3
 unfolding bytesOf
-write-part-requires-3 c κs = omega (arith, sized (c .before .before .before .before .before .before .before .before .before))
+write-part-requires-2 c κs = omega (arith, sized (c .before .before .before .before .before))
 
 same-length : tie.Need-same-length
 same-length c = search needs
 
 returns : tie.Need-returns
 returns c =
-    let a = c .before .before .before .before .before .before .before .before .before .before .before .before .before .before .before .before .before .args in
-    put-key (a .pages .now) (c .before .before .before .before .before .before .before .before .before .before .write-part .last .0) (c .before .before .before .before .before .before .write-part2 .last .0) _ (a .prefix .now) (a .mode) (a .tag .now) (a .rest .now) (a .at) _ _
-    (c .before .before .before .before .before .before .before .before .before .before .write-part .ensures) (c .before .before .before .before .before .before .write-part2 .ensures) (c .before .before .write-part3 .ensures)
-    refl (ap (λ (x : ℕ). a .at + length (a .prefix .now) + x) (c .before .before .before .before .before .before .before .before .before .before .before .before .measure .ensures))
+    let m = c .before .before .before .before .before .before .before .before in
+    let a = m .before .before .before .before .args in
+    let w = c .before .before .before .before .before .before in
+    put-key (a .pages .now) (w .write-part .last .0) _ (a .mode) (a .front .now) (a .rest .now) (a .at) _
+    (w .write-part .ensures) (c .before .before .write-part2 .ensures)
+    (ap (λ (x : ℕ). a .at + x) (m .measure .ensures))
 
 pub write-key-spec : {M : Type 1} → statement M
 write-key-spec =
     tie.close
-    (tie.spec
-    add-b
-    measure-requires
-    add-c
-    write-part-requires
-    write-part-requires-2
-    write-part-requires-3
-    same-length
-    returns)
+    (tie.spec measure-requires add-b write-part-requires write-part-requires-2 same-length returns)

@@ -1,4 +1,4 @@
--- What the add of a legal name promises is add's promise, once the header and the name are checked. Assumes nothing.
+-- What the add of a name of legal shape promises is add's promise, once the header and the shape are checked. Assumes nothing.
 use mathlib.Core.Path.{_≡_, sym, _∙_}
 use mathlib.Core.Option.{none}
 use lib.ListN.{length}
@@ -6,11 +6,11 @@ use Rattle.layout.specs.declared.Header.the-variants.{Opened}
 use Rattle.layout.specs.Header.{headerOf}
 use Rattle.string_dv_dict.proofs.Answers.{told-legal, told-illegal}
 use Rattle.model.specs.Names.{entered}
-use Rattle.model.specs.Steps.{checks}
-use Rattle.model.proofs.Legal.{legal-kind}
+use Rattle.names.specs.Checks.{shapeRefusal}
+use Rattle.names.proofs.Checks.{shape-refused, shape-kind, shape-size}
 use Rattle.enter.specs.Added.{Lent}
 use Rattle.dictionary.proofs.Headers.{header, in-range}
-use Rattle.dictionary.proofs.Adds.{add-unopened, add-illegal, add-legal}
+use Rattle.dictionary.proofs.Adds.{add-unopened, add-illegal, add-judged}
 use borrow.Author.Needs.{needs}
 use Rattle.dictionary.proofs.add.Statement.{statement}
 use Rattle.dictionary.proofs.add.Tie as tie
@@ -21,11 +21,11 @@ opened : (c : tie.After-s) →
     headerOf (length (a .pages .now)) (a .lists .now) ≡ Opened (c .s .given .0 .0)
 opened c = sym (c .before .before .check-header .ensures) ∙ c .s .given .1
 
--- The name is legal.
-legal : (c : tie.After-enum-told2) →
+-- The name's shape is legal.
+shaped : (c : tie.After-enum-told2) →
     let a = c .before .before .before .before .before .before .before .before .before .before .before .before .before .args in
-    checks (c .before .before .before .before .s .given .0 .0) (entered (a .kind) (a .first .now) (a .second .now)) ≡ none
-legal c = told-legal _ (sym (c .before .before .check-name .ensures) ∙ c .enum-told2 .given .1)
+    shapeRefusal (c .before .before .before .before .s .given .0 .0) (entered (a .kind) (a .first .now) (a .second .now)) ≡ none
+shaped c = told-legal _ (sym (c .before .before .check-shape .ensures) ∙ c .enum-told2 .given .1)
 
 lent : (c : tie.After-enum-told2) →
     let a = c .before .before .before .before .before .before .before .before .before .before .before .before .before .args in
@@ -38,7 +38,7 @@ lent c =
       ranged = in-range (a .pages .now) (a .lists .now) s (opened (c .before .before .before .before));
       pages-fit = h .pages-fit;
       lists-fit = h .lists-fit;
-      kinded = legal-kind s (entered (a .kind) (a .first .now) (a .second .now)) (legal c);
+      kinded = shape-kind s (entered (a .kind) (a .first .now) (a .second .now)) (shaped c);
     }
 
 check-header-requires : tie.Need-check-header-requires
@@ -61,8 +61,8 @@ returns c =
     let a = c .before .before .before .before .before .before .before .before .before .args in
     add-unopened (a .pages .now) (a .lists .now) (entered (a .kind) (a .first .now) (a .second .now)) (sym (c .before .before .check-header .ensures) ∙ c .enum-told .given .1)
 
-check-name-requires : tie.Need-check-name-requires
-check-name-requires c κs = search needs
+check-shape-requires : tie.Need-check-shape-requires
+check-shape-requires c κs = search needs
 
 enum-known-why : tie.Need-enum-known-why
 enum-known-why c = search needs
@@ -77,13 +77,13 @@ returns-2 : tie.Need-returns-2
 returns-2 c =
     let a = c .before .before .before .before .before .before .before .before .before .before .before .before .before .before .args in
     add-illegal (a .pages .now) (a .lists .now) (c .before .before .before .before .before .s .given .0 .0) (opened (c .before .before .before .before .before)) (entered (a .kind) (a .first .now) (a .second .now)) _
-    (told-illegal _ _ (sym (c .before .before .before .check-name .ensures) ∙ c .before .why .given .1))
+    (shape-refused _ _ _ (told-illegal _ _ (sym (c .before .before .before .check-shape .ensures) ∙ c .before .why .given .1)))
 
 enum-told-2 : tie.Need-enum-told-2
 enum-told-2 c = search needs
 
 add-name-requires : tie.Need-add-name-requires
-add-name-requires c κs = (lent (c .before .before), legal (c .before .before))
+add-name-requires c κs = (lent (c .before .before), shape-size _ _ (shaped (c .before .before)))
 
 same-length-5 : tie.Need-same-length-5
 same-length-5 c = search needs
@@ -94,7 +94,7 @@ same-length-6 c = search needs
 returns-3 : tie.Need-returns-3
 returns-3 c =
     let a = c .before .before .before .before .before .before .before .before .before .before .before .before .before .before .before .before .before .before .before .before .args in
-    add-legal (a .pages .now) (a .lists .now) (c .before .before .before .before .before .before .before .before .before .before .before .s .given .0 .0) (opened (c .before .before .before .before .before .before .before .before .before .before .before)) (entered (a .kind) (a .first .now) (a .second .now)) (legal (c .before .before .before .before .before .before .before)) _ _ _
+    add-judged (a .pages .now) (a .lists .now) (c .before .before .before .before .before .before .before .before .before .before .before .s .given .0 .0) (opened (c .before .before .before .before .before .before .before .before .before .before .before)) (entered (a .kind) (a .first .now) (a .second .now)) (shaped (c .before .before .before .before .before .before .before)) _ _ _
     (c .before .before .before .before .add-name .ensures)
 
 pub add-spec : {M : Type 1} → statement M
@@ -107,7 +107,7 @@ add-spec =
     same-length
     same-length-2
     returns
-    check-name-requires
+    check-shape-requires
     enum-known-why
     same-length-3
     same-length-4

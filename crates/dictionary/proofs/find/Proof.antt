@@ -10,7 +10,7 @@ use Rattle.string_dv_dict.proofs.Answers.{told-legal, told-illegal}
 use Rattle.model.specs.Names.{entered}
 use Rattle.model.specs.Steps.{checks}
 use Rattle.names.specs.Checks.{shapeRefusal}
-use Rattle.names.proofs.Checks.{shape-refused, text-decides, shape-kind}
+use Rattle.names.proofs.Checks.{shape-refused, text-decides, shape-kind, shape-size}
 use Rattle.search.specs.declared.Search.the-variants.{Found}
 use Rattle.search.specs.Found.{Lent, FindsName}
 use Rattle.dictionary.proofs.Headers.{header, in-range}
@@ -97,7 +97,7 @@ enum-told-2 : tie.Need-enum-told-2
 enum-told-2 c = search needs
 
 find-name-requires : tie.Need-find-name-requires
-find-name-requires c κs = lent c
+find-name-requires c κs = (lent c, shape-size _ _ (shaped c))
 
 check-text-requires : tie.Need-check-text-requires
 check-text-requires c κs = search needs

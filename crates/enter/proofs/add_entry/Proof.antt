@@ -14,36 +14,35 @@ use Rattle.enter.proofs.add_entry.Tie as tie
 
 -- The key's length is the sum that is computed, and small.
 sized : (c : tie.After-measure) →
-    let a = c .before .before .before .before .before .before .args in
-    let n = length (a .prefix .now) + c .measure .result + length (a .rest .now) in
-    (n ≡ length (keyOf (a .prefix .now) (a .mode) (a .tag .now) (a .rest .now))) × (n ≤ 8192)
+    let a = c .before .before .before .before .before .args in
+    let n = c .measure .result + length (a .rest .now) in
+    (n ≡ length (keyOf (a .mode) (a .front .now) (a .rest .now))) × (n ≤ 8192)
 sized c =
-    let z = c .before .before .before .before .before .before in
-    let l = length-key (z .args .prefix .now) (z .args .mode) (z .args .tag .now) (z .args .rest .now) in
+    let z = c .before .before .before .before .before in
+    let l = length-key (z .args .mode) (z .args .front .now) (z .args .rest .now) in
     (omega (arith, l, c .measure .ensures), omega (arith, l, c .measure .ensures, z .pre .1 .1 .0))
 
 -- The plan that was made.
 fit : (c : tie.After-x) →
     let m = c .before .before .before .before in
-    let a = m .before .before .before .before .before .before .args in
-    PlanFits (a .s) (length (a .prefix .now) + m .measure .result + length (a .rest .now)) (c .x .given .0 .0)
+    let a = m .before .before .before .before .before .args in
+    PlanFits (a .s) (m .measure .result + length (a .rest .now)) (c .x .given .0 .0)
 fit c =
     let m = c .before .before .before .before in
-    let a = m .before .before .before .before .before .before .args in
-    subst (PlanBounded (a .s) (length (a .prefix .now) + m .measure .result + length (a .rest .now))) (c .x .given .1) (c .before .before .plan-entry .ensures .bounded)
+    let a = m .before .before .before .before .before .args in
+    subst (PlanBounded (a .s) (m .measure .result + length (a .rest .now))) (c .x .given .1) (c .before .before .plan-entry .ensures .bounded)
 
 measure-requires : tie.Need-measure-requires
-measure-requires c κs = search needs
+measure-requires c κs =
+    let z = c .before .before .before .before in
+    omega (arith, length-key (z .args .mode) (z .args .front .now) (z .args .rest .now), z .pre .1 .1 .0)
 
 add-len : tie.Need-add-len
 add-len c = omega (arith, sized c)
 
-add-len-2 : tie.Need-add-len-2
-add-len-2 c = omega (arith, sized c)
-
 plan-entry-requires : tie.Need-plan-entry-requires
 plan-entry-requires c κs =
-    let p = c .before .before .before .before .before .before .before .pre .0 in
+    let p = c .before .before .before .before .before .before .pre .0 in
     (p .ranged, p .lists-fit, p .kinded, sized (c .before) .1)
 
 enum-known-x : tie.Need-enum-known-x
@@ -55,7 +54,7 @@ main-dictionary-requires c κs = search needs
 insert-requires : tie.Need-insert-requires
 insert-requires c κs =
     let x = c .before .before .before .before in
-    let z = c .before .before .before .before .before .before .before .before .before .before .before .before .before .before in
+    let z = c .before .before .before .before .before .before .before .before .before .before .before .before .before in
     let L = z .pre .0 in
     let F = fit x in (
       (record { ranged = L .ranged; pages-fit = L .pages-fit; lists-fit = L .lists-fit; known = c .before .before .main-dictionary .ensures .1 }, F .number, z .pre .1 .0 .range),
@@ -64,12 +63,12 @@ insert-requires c κs =
 
 take-block-requires : tie.Need-take-block-requires
 take-block-requires c κs =
-    let L = c .before .before .before .before .before .before .before .before .before .before .before .before .before .before .before .before .before .before .before .before .pre .0 in
+    let L = c .before .before .before .before .before .before .before .before .before .before .before .before .before .before .before .before .before .before .before .pre .0 in
     let F = fit (c .before .before .before .before .before .before .before .before .before .before) in
     (L .ranged, omega (arith, L .lists-fit), L .kinded, F .local, omega (arith, F .block))
 
 number-in-requires : tie.Need-number-in-requires
-number-in-requires c κs = (c .before .before .before .before .before .before .before .before .before .before .before .before .before .before .before .before .before .before .before .before .before .before .before .pre .0 .ranged, omega (arith, fit (c .before .before .before .before .before .before .before .before .before .before .before .before .before) .block))
+number-in-requires c κs = (c .before .before .before .before .before .before .before .before .before .before .before .before .before .before .before .before .before .before .before .before .before .before .pre .0 .ranged, omega (arith, fit (c .before .before .before .before .before .before .before .before .before .before .before .before .before) .block))
 
 enum-known-why : tie.Need-enum-known-why
 enum-known-why c = search needs
@@ -84,10 +83,10 @@ returns : tie.Need-returns
 returns c =
     let x = c .before .before .before .before .before .before .before .before .before .before .before .before .before .before in
     let m = x .before .before .before .before in
-    let z = m .before .before .before .before .before .before in
+    let z = m .before .before .before .before .before in
     let a = z .args in
     let i = c .before .before .before .before .before .before .before .before .before .insert in
-    added-calls (a .s) (a .pages .now) (a .lists .now) (a .k) (keyOf (a .prefix .now) (a .mode) (a .tag .now) (a .rest .now)) (z .pre .0) (a .place) (z .pre .1 .0)
+    added-calls (a .s) (a .pages .now) (a .lists .now) (a .k) (keyOf (a .mode) (a .front .now) (a .rest .now)) (z .pre .0) (a .place) (z .pre .1 .0)
     _ _ _ (x .x .given .0 .0) _ _ _ _ (sized m .0) (x .before .before .plan-entry .ensures) (x .x .given .1) (c .before .before .before .before .before .before .before .before .before .before .before .before .main-dictionary .ensures .0)
     (i .ensures .0) (i .ensures .1) (c .before .before .before .take-block .ensures) (c .number-in .ensures)
 
@@ -97,9 +96,9 @@ same-length-3 c = search needs
 returns-2 : tie.Need-returns-2
 returns-2 c =
     let m = c .before .before .before .before .before in
-    let z = m .before .before .before .before .before .before in
+    let z = m .before .before .before .before .before in
     let a = z .args in
-    added-refused (a .s) (a .pages .now) (a .lists .now) (a .k) (keyOf (a .prefix .now) (a .mode) (a .tag .now) (a .rest .now)) (z .pre .0) (a .place) (z .pre .1 .0)
+    added-refused (a .s) (a .pages .now) (a .lists .now) (a .k) (keyOf (a .mode) (a .front .now) (a .rest .now)) (z .pre .0) (a .place) (z .pre .1 .0)
     _ _ _ (sized m .0) (c .before .before .before .plan-entry .ensures) (c .before .why .given .1)
 
 pub add-entry-spec : {M : Type 1} → statement M
@@ -108,7 +107,6 @@ add-entry-spec =
     (tie.spec
     measure-requires
     add-len
-    add-len-2
     plan-entry-requires
     enum-known-x
     main-dictionary-requires

@@ -16,7 +16,7 @@ use Rattle.bytes_dictionary.specs.declared.Counted.the-variants.{Entries}
 use Rattle.bytes_dictionary.specs.Reading.{countIn}
 use Rattle.bytes_dictionary.proofs.Reading.{counted-by}
 use Rattle.model.specs.Kinds.{row}
-use Rattle.search.proofs.Leads.{raw-hash, lead-short, lead-length, never-refused, lead-key}
+use Rattle.search.proofs.Leads.{raw-hash, raw-short, lead-short, lead-length, never-refused, lead-key}
 use Rattle.enter_pair.specs.declared.PairPlanned.the-variants as P
 use Rattle.enter_pair.specs.Plans.{PairPlanFits, PlansPair}
 use Rattle.enter_pair.proofs.Writes.{raw-key}
@@ -58,7 +58,7 @@ lead-in c = omega (arith, length-m c, lead-short (numbered c .f .given .0 .0), c
 -- The key of the pair.
 key-at : (c : tie.After-m) →
     let a = entered (numbered c) .args in
-    keyOf (take (c .m .given .0 .0) (c .before .before .before .write-frequent-id .last .1 .0)) Raw [] (a .rest .now) ≡ fid (numbered c .f .given .0 .0) ++ a .rest .now
+    keyOf Raw (take (c .m .given .0 .0) (c .before .before .before .write-frequent-id .last .1 .0)) (a .rest .now) ≡ fid (numbered c .f .given .0 .0) ++ a .rest .now
 key-at c =
     let f = numbered c in
     lead-key (f .f .given .0 .0) zeros (small f) (omega arith) _ (entered f .args .rest .now) _ (c .before .before .before .write-frequent-id .ensures .1) (length-m c)
@@ -83,12 +83,12 @@ before-hash c = c .before .before .before .before
 
 hashed : (c : tie.After-fnv-from) →
     let m = before-hash c in
-    c .fnv-from .result ≡ fnvOf (keyOf (take (m .m .given .0 .0) (m .before .before .before .write-frequent-id .last .1 .0)) Raw [] (entered (numbered m) .args .rest .now))
+    c .fnv-from .result ≡ fnvOf (keyOf Raw (take (m .m .given .0 .0) (m .before .before .before .write-frequent-id .last .1 .0)) (entered (numbered m) .args .rest .now))
 hashed c = raw-hash _ _ _ _ (c .before .fnv .ensures) (c .fnv-from .ensures)
 
 -- The search for it.
 abbrev hash-of : tie.After-bytes-to-id → tie.After-fnv-from
-hash-of c = c .before .before .before .before .before .before
+hash-of c = c .before .before .before .before .before
 
 abbrev led : tie.After-bytes-to-id → tie.After-m
 led c = before-hash (hash-of c)
@@ -101,7 +101,7 @@ searched c =
     let m = led c in
     let a = entered (numbered m) .args in
     subst (λ x. Searched (a .s) (row (a .k) .mainAt) (a .pages .now) (a .lists .now) x (c .bytes-to-id .result)) (key-at m)
-    (subst (λ j. Searched (a .s) j (a .pages .now) (a .lists .now) (keyOf (take (m .m .given .0 .0) (m .before .before .before .write-frequent-id .last .1 .0)) Raw [] (a .rest .now)) (c .bytes-to-id .result)) (c .before .before .before .before .before .main-dictionary .ensures .0) (c .bytes-to-id .ensures))
+    (subst (λ j. Searched (a .s) j (a .pages .now) (a .lists .now) (keyOf Raw (take (m .m .given .0 .0) (m .before .before .before .write-frequent-id .last .1 .0)) (a .rest .now)) (c .bytes-to-id .result)) (c .before .before .before .before .main-dictionary .ensures .0) (c .bytes-to-id .ensures))
 
 free : (c : tie.After-found) →
     let f = numbered (led (c .before .before)) in
@@ -207,14 +207,15 @@ slice-aggregate-bytes-to-id : tie.Need-slice-aggregate-bytes-to-id
 slice-aggregate-bytes-to-id c =
     sym (length-take-le _ _ (lead-in (before-hash (c .before .before .before .before))))
 
-slice-aggregate-bytes-to-id-2 : tie.Need-slice-aggregate-bytes-to-id-2
-slice-aggregate-bytes-to-id-2 c = search needs
-
 bytes-to-id-requires : tie.Need-bytes-to-id-requires
 bytes-to-id-requires c κs =
-    let h = c .before .before .before .before .before in
-    let L = entered (numbered (before-hash h)) .pre .0 .0 in
-    (record { ranged = L .ranged; pages-fit = L .pages-fit; lists-fit = L .lists-fit; known = c .before .before .before .before .main-dictionary .ensures .1 }, hashed h)
+    let h = c .before .before .before .before in
+    let m = before-hash h in
+    let L = entered (numbered m) .pre .0 .0 in (
+      record { ranged = L .ranged; pages-fit = L .pages-fit; lists-fit = L .lists-fit; known = c .before .before .before .main-dictionary .ensures .1 },
+      hashed h,
+      raw-short _ (omega (arith, length-m m, lead-short (numbered m .f .given .0 .0), length-take-le (m .m .given .0 .0) (m .before .before .before .write-frequent-id .last .1 .0) (lead-in m))),
+    )
 
 enum-known-found : tie.Need-enum-known-found
 enum-known-found c = search needs
@@ -338,7 +339,6 @@ add-both-spec =
     main-dictionary-requires
     array-share-prefix-lead-2
     slice-aggregate-bytes-to-id
-    slice-aggregate-bytes-to-id-2
     bytes-to-id-requires
     enum-known-found
     same-length-3

@@ -3,7 +3,6 @@ use Prim.Native.Nat.{ℕ, zero, suc, _+_, _≤_}
 use mathlib.Core.Path.{_≡_, refl, sym, subst, _∙_}
 use mathlib.Core.Bool.{true}
 use mathlib.Core.List.{[]}
-use mathlib.Core.Option.{none}
 use native.Mathlib.Omega.{arith}
 use lib.ListN.{length, take, length-drop}
 use lib.Seq.{length-take-le}
@@ -16,14 +15,14 @@ use Rattle.bytes_index.specs.Search.{keyOf}
 use Rattle.model.specs.Names.{Name, entered}
 use Rattle.model.specs.Kinds.{row}
 use Rattle.model.specs.State.{State}
-use Rattle.model.specs.Steps.{checks}
-use Rattle.model.proofs.Legal.{legal}
+use Rattle.model.specs.Answers.{AddAnswer}
+use Rattle.names.specs.Checks.{textRefusal}
 use Rattle.names.specs.Given.{restBehind}
 use Rattle.names.proofs.Rows.{paired}
 use Rattle.names.proofs.Pairs.{is-pair}
 use Rattle.search.proofs.Leads.{whole-hash}
-use Rattle.enter.specs.Added.{Lent, HasKey}
-use Rattle.enter_pair.proofs.Means.{same-names, by-rest}
+use Rattle.enter.specs.Added.{Lent, Judged, HasKey}
+use Rattle.enter_pair.proofs.Means.{judged-names, by-rest}
 use borrow.Author.Needs.{needs}
 use Rattle.enter_pair.proofs.add_name.Statement.{statement}
 use Rattle.enter_pair.proofs.add_name.Tie as tie
@@ -38,22 +37,24 @@ parts-short : (k : ℕ) (first second : Bytes) (n : ℕ) → n ≤ length first 
 parts-short zero first second n l h = omega (arith, length-take-le n first l, length-drop n first)
 parts-short (suc k) first second n l h = omega (arith, length-take-le n first l)
 
--- What the arguments of a legal name of each kind stand for.
-module _ (s : Sizes) (k : ℕ) (first second : Bytes) (e : checks s (entered k first second) ≡ none) where
-  sized : length first + length second ≤ nameLimit
-  sized = legal s (entered k first second) e .size
+plain-short : (first second : Bytes) → length first + length second ≤ nameLimit → length (keyOf Raw [] first) ≤ 8192
+unfolding bytesOf nameLimit
+plain-short first second h = omega arith
 
-  plain-short : length (keyOf [] Raw [] first) ≤ 8192
-  unfolding bytesOf nameLimit
-  plain-short = omega (arith, sized)
+-- What the arguments of each kind stand for.
+module _ (k : ℕ) (first second : Bytes) (st : State) (a : Name) (m : a ≡ entered k first second) where
+  is-plain : k ≡ 1 → HasKey 1 (keyOf Raw [] first) st a
+  unfolding bytesOf
+  is-plain z = rw (m, z) (by-rest 1 first st (entered 1 first second) refl refl refl)
 
-  module _ (st : State) (a : Name) (m : a ≡ entered k first second) where
-    is-plain : k ≡ 1 → HasKey 1 (keyOf [] Raw [] first) st a
-    unfolding bytesOf
-    is-plain z = rw (m, z) (by-rest 1 first st (entered 1 first second) refl refl refl)
+  is-tagged : k ≡ 2 → a ≡ entered 2 first second
+  is-tagged z = m ∙ rw z
 
-    is-tagged : k ≡ 2 → a ≡ entered 2 first second
-    is-tagged z = m ∙ rw z
+-- The name's text is judged the same by a kind's number.
+by-kind : (s : Sizes) (k j : ℕ) (first second pages lists : Bytes) (M : State → Name → Type 0) (r : AddAnswer) (pages′ lists′ : Bytes) → k ≡ j
+    → Judged (textRefusal (entered j first second)) s M pages lists r pages′ lists′
+    → Judged (textRefusal (entered k first second)) s M pages lists r pages′ lists′
+by-kind s k j first second pages lists M r pages′ lists′ e h = subst (λ (i : ℕ). Judged (textRefusal (entered i first second)) s M pages lists r pages′ lists′) (sym e) h
 
 -- Neither of the two kinds of strings: there are heads.
 has-heads : (c : tie.Else2) → row (c .before .before .before .before .before .before .args .kind) .paired ≡ true
@@ -72,7 +73,8 @@ add-str-requires c κs =
     let t = c .before .before .before .before in
     let z = t .before .before .before .before .before in
     let a = z .args in
-    (other-kind _ _ _ _ _ (z .pre .0) (t .if1 .taken), (plain-short (a .s) (a .kind) (a .first .now) (a .second .now) (z .pre .1), whole-hash (a .first .now) (c .fnv .result) (c .fnv .ensures)))
+    let h = c .before .before .fnv in
+    (other-kind _ _ _ _ _ (z .pre .0) (t .if1 .taken), (plain-short (a .first .now) (a .second .now) (z .pre .1), whole-hash (a .first .now) (h .result) (h .ensures)))
 
 same-length : tie.Need-same-length
 same-length c = search needs
@@ -86,16 +88,15 @@ returns c =
     let t = e .before .before .before .before .before in
     let z = t .before .before .before .before .before in
     let a = z .args in
-    same-names (a .s) (a .pages .now) (a .lists .now) _ _ _ _ _
-    (λ st x S l m. is-plain (a .s) (a .kind) (a .first .now) (a .second .now) (z .pre .1) st x m (t .if1 .taken))
-    (e .add-str .ensures)
+    judged-names (a .s) (a .pages .now) (a .lists .now) _ _ _ _ _ _
+    (λ st x S l m. is-plain (a .kind) (a .first .now) (a .second .now) st x m (t .if1 .taken))
+    (by-kind (a .s) _ _ (a .first .now) (a .second .now) (a .pages .now) (a .lists .now) _ _ _ _ (t .if1 .taken) (e .add-str .ensures))
 
 add-tagged-requires : tie.Need-add-tagged-requires
 add-tagged-requires c κs =
     let t = c .before .before in
     let z = t .before .before .before .before .before .before in
-    let a = z .args in
-    (other-kind _ _ _ _ _ (z .pre .0) (t .if2 .taken), sized (a .s) (a .kind) (a .first .now) (a .second .now) (z .pre .1))
+    (other-kind _ _ _ _ _ (z .pre .0) (t .if2 .taken), z .pre .1)
 
 same-length-3 : tie.Need-same-length-3
 same-length-3 c = search needs
@@ -109,9 +110,9 @@ returns-2 c =
     let t = e .before .before .before in
     let z = t .before .before .before .before .before .before in
     let a = z .args in
-    same-names (a .s) (a .pages .now) (a .lists .now) _ _ _ _ _
-    (λ st x S l m. is-tagged (a .s) (a .kind) (a .first .now) (a .second .now) (z .pre .1) st x m (t .if2 .taken))
-    (e .add-tagged .ensures)
+    judged-names (a .s) (a .pages .now) (a .lists .now) _ _ _ _ _ _
+    (λ st x S l m. is-tagged (a .kind) (a .first .now) (a .second .now) st x m (t .if2 .taken))
+    (by-kind (a .s) _ _ (a .first .now) (a .second .now) (a .pages .now) (a .lists .now) _ _ _ _ (t .if2 .taken) (e .add-tagged .ensures))
 
 head-length-requires : tie.Need-head-length-requires
 head-length-requires c κs = search needs
@@ -132,7 +133,7 @@ add-pair-requires c κs =
       other-kind _ _ _ _ _ (z .pre .0) refl,
       has-heads (h .before),
       subst (λ (y : Bytes). length (take n (a .first .now)) + length y ≤ nameLimit) (sym (b .rest-behind .ensures))
-          (parts-short (a .kind) (a .first .now) (a .second .now) n (h .head-length .ensures .1) (sized (a .s) (a .kind) (a .first .now) (a .second .now) (z .pre .1))),
+          (parts-short (a .kind) (a .first .now) (a .second .now) n (h .head-length .ensures .1) (z .pre .1)),
     )
 
 same-length-5 : tie.Need-same-length-5
@@ -148,7 +149,7 @@ returns-3 c =
     let h = b .before in
     let z = h .before .before .before .before .before .before .before in
     let a = z .args in
-    same-names (a .s) (a .pages .now) (a .lists .now) _ _ _ _ _
+    judged-names (a .s) (a .pages .now) (a .lists .now) _ _ _ _ _ _
     (λ st x S l m. is-pair (a .kind) (a .first .now) (a .second .now) _ _ (z .pre .0 .kinded) (has-heads (h .before)) (h .head-length .ensures .0) (b .rest-behind .ensures) x m)
     (e .add-pair .ensures)
 

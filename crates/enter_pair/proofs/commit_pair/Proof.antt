@@ -14,10 +14,10 @@ use Rattle.enter_pair.proofs.commit_pair.Tie as tie
 
 -- The place before the second insert, and the function's start.
 abbrev first : tie.After-insert-arg4 → tie.After-insert
-first c = c .before .before .before .before .before .before
+first c = c .before .before .before .before .before .before .before
 
 abbrev entered : tie.After-insert → tie.Start
-entered c = c .before .before .before .before .before .before .before .before .before .before .before
+entered c = c .before .before .before .before .before .before .before .before .before .before
 
 abbrev second : tie.After-take-block-arg → tie.After-insert2
 second c = c .before .before .before .before .before
@@ -28,16 +28,16 @@ slice-aggregate-none c = search needs
 head-dictionary-requires : tie.Need-head-dictionary-requires
 head-dictionary-requires c κs = search needs
 
-main-dictionary-requires : tie.Need-main-dictionary-requires
-main-dictionary-requires c κs = search needs
-
 insert-requires : tie.Need-insert-requires
 unfolding bytesOf
 insert-requires c κs =
-    let z = c .before .before .before .before .before .before .before .before .before .before in
+    let z = c .before .before .before .before .before .before .before .before .before in
     let L = z .pre .0 .0 in
     let F = z .pre .1 .0 in
-    ((record { ranged = L .ranged; pages-fit = L .pages-fit; lists-fit = L .lists-fit; known = c .before .before .before .head-dictionary .ensures .1 }, F .heads, z .pre .0 .2), (F .head-room, z .pre .1 .1 .0))
+    ((record { ranged = L .ranged; pages-fit = L .pages-fit; lists-fit = L .lists-fit; known = c .before .before .head-dictionary .ensures .1 }, F .heads, z .pre .0 .2), (F .head-room, z .pre .1 .1 .0))
+
+main-dictionary-requires : tie.Need-main-dictionary-requires
+main-dictionary-requires c κs = search needs
 
 insert-requires-2 : tie.Need-insert-requires-2
 insert-requires-2 c κs =
@@ -51,7 +51,7 @@ insert-requires-2 c κs =
           ranged = L .ranged;
           pages-fit = omega (arith, L .pages-fit, i .insert .kept);
           lists-fit = omega (arith, L .lists-fit, i .insert .kept);
-          known = i .before .before .before .main-dictionary .ensures .1;
+          known = c .before .before .main-dictionary .ensures .1;
         },
         F .number,
         z .pre .0 .3,
@@ -93,7 +93,7 @@ returns c =
       (
         both-pages (a .s) (a .pages .now) (a .x) (a .head .now) (a .lead .now) (a .rest .now) _ _ (i .insert .ensures .0) (j .insert2 .ensures .0),
         both-lists (a .s) (a .lists .now) (a .k) (a .f) (a .headplace) (a .place) (a .x) (a .head .now) (a .lead .now) (a .rest .now) _ _ _ _ _
-            (i .before .before .before .before .head-dictionary .ensures .0) (i .before .before .before .main-dictionary .ensures .0)
+            (i .before .before .before .head-dictionary .ensures .0) (j .before .before .before .main-dictionary .ensures .0)
             (i .insert .ensures .1) (j .insert2 .ensures .1) (t .take-block .ensures),
       ),
     )
@@ -104,8 +104,8 @@ commit-pair-spec =
     (tie.spec
     slice-aggregate-none
     head-dictionary-requires
-    main-dictionary-requires
     insert-requires
+    main-dictionary-requires
     insert-requires-2
     take-block-requires
     number-in-requires

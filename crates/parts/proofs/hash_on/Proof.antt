@@ -13,14 +13,8 @@ fnv-from-requires c κs = search needs
 enum-told-2 : tie.Need-enum-told-2
 enum-told-2 c = search needs
 
-hash-escaped-requires : tie.Need-hash-escaped-requires
-hash-escaped-requires c κs = search needs
-
-enum-told-3 : tie.Need-enum-told-3
-enum-told-3 c = search needs
-
-hash-closed-requires : tie.Need-hash-closed-requires
-hash-closed-requires c κs = search needs
+hash-tag-requires : tie.Need-hash-tag-requires
+hash-tag-requires c κs = search needs
 
 returns : tie.Need-returns
 unfolding bytesOf
@@ -28,11 +22,7 @@ returns c = rw (c .before .enum-told .given .1) (c .fnv-from .ensures)
 
 returns-2 : tie.Need-returns-2
 unfolding bytesOf
-returns-2 c = rw (c .before .enum-told2 .given .1) (c .hash-escaped .ensures)
-
-returns-3 : tie.Need-returns-3
-unfolding bytesOf
-returns-3 c = rw (c .before .enum-told3 .given .1) (c .hash-closed .ensures)
+returns-2 c = rw (c .before .enum-told2 .given .1) (c .hash-tag .ensures)
 
 pub hash-on-spec : {M : Type 1} → statement M
 hash-on-spec =
@@ -41,9 +31,6 @@ hash-on-spec =
     enum-told
     fnv-from-requires
     enum-told-2
-    hash-escaped-requires
-    enum-told-3
-    hash-closed-requires
+    hash-tag-requires
     returns
-    returns-2
-    returns-3)
+    returns-2)

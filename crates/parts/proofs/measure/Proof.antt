@@ -10,14 +10,9 @@ enum-told c = search needs
 enum-told-2 : tie.Need-enum-told-2
 enum-told-2 c = search needs
 
-measure-escaped-requires : tie.Need-measure-escaped-requires
-measure-escaped-requires c κs = search needs
-
-enum-told-3 : tie.Need-enum-told-3
-enum-told-3 c = search needs
-
-measure-closed-requires : tie.Need-measure-closed-requires
-measure-closed-requires c κs = search needs
+measure-tag-requires : tie.Need-measure-tag-requires
+unfolding bytesOf
+measure-tag-requires c κs = rw (c .enum-told2 .given .1) at (c .before .before .before .pre)
 
 returns : tie.Need-returns
 unfolding bytesOf
@@ -25,11 +20,7 @@ returns c = rw (c .enum-told .given .1)
 
 returns-2 : tie.Need-returns-2
 unfolding bytesOf
-returns-2 c = rw (c .before .enum-told2 .given .1) (c .measure-escaped .ensures)
-
-returns-3 : tie.Need-returns-3
-unfolding bytesOf
-returns-3 c = rw (c .before .enum-told3 .given .1) (c .measure-closed .ensures)
+returns-2 c = rw (c .before .enum-told2 .given .1) (c .measure-tag .ensures)
 
 pub measure-spec : {M : Type 1} → statement M
 measure-spec =
@@ -37,9 +28,6 @@ measure-spec =
     (tie.spec
     enum-told
     enum-told-2
-    measure-escaped-requires
-    enum-told-3
-    measure-closed-requires
+    measure-tag-requires
     returns
-    returns-2
-    returns-3)
+    returns-2)

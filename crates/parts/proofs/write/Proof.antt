@@ -1,10 +1,9 @@
 -- Each mode's bytes are stored at the front. Assumes nothing.
 use mathlib.Core.Path.{_∙_}
 use Prim.Native.Nat.{_≤_}
-use mathlib.Core.List.{[], _∷_, _++_}
 use lib.ListN.{length}
 use borrow.Author.Needs.{needs}
-use Rattle.parts.specs.Parts.{escaped, bytesOf}
+use Rattle.parts.specs.Parts.{tagBytes, bytesOf}
 use Rattle.parts.proofs.Laws.{sets-front}
 use Rattle.parts.proofs.write.Statement.{statement}
 use Rattle.parts.proofs.write.Tie as tie
@@ -14,13 +13,9 @@ raw : (c : tie.After-enum-told) → length (c .before .before .before .before .a
 unfolding bytesOf
 raw c = rw (c .enum-told .given .1) at (c .before .before .before .before .pre)
 
-long : (c : tie.After-enum-told2) → length (escaped (c .before .before .before .before .args .s .now)) ≤ length (c .before .before .before .before .args .dst .now)
+tag : (c : tie.After-enum-told2) → length (tagBytes (c .before .before .before .before .args .s .now)) ≤ length (c .before .before .before .before .args .dst .now)
 unfolding bytesOf
-long c = rw (c .enum-told2 .given .1) at (c .before .before .before .before .pre)
-
-ended : (c : tie.After-enum-told3) → length (escaped (c .before .before .before .before .args .s .now) ++ 62 ∷ []) ≤ length (c .before .before .before .before .args .dst .now)
-unfolding bytesOf
-ended c = rw (c .enum-told3 .given .1) at (c .before .before .before .before .pre)
+tag c = rw (c .enum-told2 .given .1) at (c .before .before .before .before .pre)
 
 enum-told : tie.Need-enum-told
 enum-told c = search needs
@@ -31,14 +26,8 @@ write-raw-requires c κs = raw (c .before)
 enum-told-2 : tie.Need-enum-told-2
 enum-told-2 c = search needs
 
-write-escaped-requires : tie.Need-write-escaped-requires
-write-escaped-requires c κs = long (c .before)
-
-enum-told-3 : tie.Need-enum-told-3
-enum-told-3 c = search needs
-
-write-closed-requires : tie.Need-write-closed-requires
-write-closed-requires c κs = ended (c .before)
+write-tag-requires : tie.Need-write-tag-requires
+write-tag-requires c κs = tag (c .before)
 
 same-length : tie.Need-same-length
 same-length c = search needs
@@ -58,17 +47,7 @@ unfolding bytesOf
 returns-2 c =
     let a = c .before .before .before .before in
     let z = a .before .before .before .before .args in
-    rw (a .enum-told2 .given .1) (c .before .before .write-escaped .ensures ∙ sets-front (escaped (z .s .now)) (z .dst .now) (long a))
-
-same-length-3 : tie.Need-same-length-3
-same-length-3 c = search needs
-
-returns-3 : tie.Need-returns-3
-unfolding bytesOf
-returns-3 c =
-    let a = c .before .before .before .before in
-    let z = a .before .before .before .before .args in
-    rw (a .enum-told3 .given .1) (c .before .before .write-closed .ensures ∙ sets-front (escaped (z .s .now) ++ 62 ∷ []) (z .dst .now) (ended a))
+    rw (a .enum-told2 .given .1) (c .before .before .write-tag .ensures ∙ sets-front (tagBytes (z .s .now)) (z .dst .now) (tag a))
 
 pub write-spec : {M : Type 1} → statement M
 write-spec =
@@ -77,12 +56,8 @@ write-spec =
     enum-told
     write-raw-requires
     enum-told-2
-    write-escaped-requires
-    enum-told-3
-    write-closed-requires
+    write-tag-requires
     same-length
     returns
     same-length-2
-    returns-2
-    same-length-3
-    returns-3)
+    returns-2)

@@ -1,7 +1,9 @@
 -- The search in the kind's dictionary of heads. Assumes nothing.
 use mathlib.Core.Path.{refl}
+use mathlib.Core.List.{[]}
+use native.Mathlib.Omega.{arith}
 use borrow.Author.Needs.{needs}
-use Rattle.search.proofs.Leads.{whole-hash}
+use Rattle.search.proofs.Leads.{whole-hash, raw-short}
 use Rattle.search.proofs.Finds.{at-raw}
 use Rattle.search.proofs.find_head.Statement.{statement}
 use Rattle.search.proofs.find_head.Tie as tie
@@ -16,7 +18,10 @@ fnv-requires : tie.Need-fnv-requires
 fnv-requires c κs = search needs
 
 bytes-to-id-requires : tie.Need-bytes-to-id-requires
-bytes-to-id-requires c κs = let e = whole-hash _ (c .fnv .result) (c .fnv .ensures) in search needs
+bytes-to-id-requires c κs =
+    let e = whole-hash _ (c .fnv .result) (c .fnv .ensures) in
+    let l = raw-short [] (omega arith) in
+    search needs
 
 returns : tie.Need-returns
 returns c = at-raw _ _ _ _ _ _ _ _ (c .before .before .head-dictionary .ensures .0) refl (c .bytes-to-id .ensures)

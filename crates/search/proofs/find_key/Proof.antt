@@ -27,10 +27,10 @@ enum-told-2 c = search needs
 returns : tie.Need-returns
 returns c =
     let b = c .before .before .before .before in
-    let z = b .before .before .before .before .before .before .before in
+    let z = b .before .before .before .before .before .before in
     let a = z .args in
     let d = b .before .main-dictionary in
-    let key = keyOf (a .prefix .now) (a .mode) (a .tag .now) (a .rest .now) in
+    let key = keyOf (a .mode) (a .front .now) (a .rest .now) in
     key-at (a .s) (a .pages .now) (a .lists .now) (a .k) (d .result) key (z .pre .0 .kinded) (d .ensures .0) (c .before .before .i .given .0 .0)
     (c .entry-to-local .result) (c .entry-to-local .ensures)
     (subst (Searched (a .s) (d .result) (a .pages .now) (a .lists .now) key) (c .before .before .i .given .1) (b .bytes-to-id .ensures))
@@ -38,20 +38,20 @@ returns c =
 returns-2 : tie.Need-returns-2
 returns-2 c =
     let b = c .before .before in
-    let z = b .before .before .before .before .before .before .before in
+    let z = b .before .before .before .before .before .before in
     let a = z .args in
     let d = b .before .main-dictionary in
-    let key = keyOf (a .prefix .now) (a .mode) (a .tag .now) (a .rest .now) in
+    let key = keyOf (a .mode) (a .front .now) (a .rest .now) in
     key-free (a .s) (a .pages .now) (a .lists .now) (a .k) (d .result) key (z .pre .0 .kinded) (d .ensures .0) _
     (subst (Searched (a .s) (d .result) (a .pages .now) (a .lists .now) key) (c .enum-told .given .1) (b .bytes-to-id .ensures))
 
 returns-3 : tie.Need-returns-3
 returns-3 c =
     let b = c .before .before in
-    let z = b .before .before .before .before .before .before .before in
+    let z = b .before .before .before .before .before .before in
     let a = z .args in
     let d = b .before .main-dictionary in
-    let key = keyOf (a .prefix .now) (a .mode) (a .tag .now) (a .rest .now) in
+    let key = keyOf (a .mode) (a .front .now) (a .rest .now) in
     key-bad (a .s) (a .pages .now) (a .lists .now) (a .k) (d .result) key (z .pre .0 .kinded) (d .ensures .0)
     (subst (Searched (a .s) (d .result) (a .pages .now) (a .lists .now) key) (c .enum-told2 .given .1) (b .bytes-to-id .ensures))
 

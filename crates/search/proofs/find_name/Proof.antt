@@ -3,6 +3,7 @@ use Prim.Native.Nat.{ℕ}
 use mathlib.Core.Path.{_≡_, refl, sym, _∙_}
 use mathlib.Core.Bool.{true}
 use mathlib.Core.List.{[]}
+use native.Mathlib.Omega.{arith}
 use borrow.Author.Needs.{needs}
 use lib.Seq.{length-take-le}
 use Rattle.slices.specs.Bytes.{Bytes}
@@ -13,14 +14,14 @@ use Rattle.model.specs.Names.{Name, entered}
 use Rattle.model.specs.Kinds.{row}
 use Rattle.names.proofs.Rows.{paired}
 use Rattle.names.proofs.Pairs.{is-pair}
-use Rattle.search.proofs.Leads.{whole-hash}
+use Rattle.search.proofs.Leads.{whole-hash, raw-short}
 use Rattle.search.proofs.Finds.{same-names, by-key}
 use Rattle.search.proofs.find_name.Statement.{statement}
 use Rattle.search.proofs.find_name.Tie as tie
 
 -- What the arguments of a string stand for.
 module _ (k : ℕ) (first second : Bytes) (a : Name) (m : a ≡ entered k first second) where
-  is-plain : k ≡ 1 → (a .kind ≡ 1) × (row 1 .rest a ≡ keyOf [] Raw [] first)
+  is-plain : k ≡ 1 → (a .kind ≡ 1) × (row 1 .rest a ≡ keyOf Raw [] first)
   unfolding bytesOf
   is-plain z = rw (m, z) (refl, refl)
 
@@ -31,7 +32,7 @@ module _ (k : ℕ) (first second : Bytes) (a : Name) (m : a ≡ entered k first 
 has-heads : (c : tie.Else2) → row (c .before .before .before .before .before .before .args .kind) .paired ≡ true
 has-heads c =
     let z = c .before .before .before .before .before .before in
-    paired (z .args .kind) (z .pre .kinded) (c .before .if1 .left) (c .if2 .left)
+    paired (z .args .kind) (z .pre .0 .kinded) (c .before .if1 .left) (c .if2 .left)
 
 slice-aggregate-none : tie.Need-slice-aggregate-none
 slice-aggregate-none c = search needs
@@ -40,7 +41,10 @@ fnv-requires : tie.Need-fnv-requires
 fnv-requires c κs = search needs
 
 find-key-requires : tie.Need-find-key-requires
-find-key-requires c κs = let e = whole-hash _ (c .fnv .result) (c .fnv .ensures) in search needs
+find-key-requires c κs =
+    let e = whole-hash _ (c .fnv .result) (c .fnv .ensures) in
+    let l = raw-short [] (omega arith) in
+    search needs
 
 returns : tie.Need-returns
 returns c =
@@ -79,7 +83,7 @@ returns-3 c =
     let z = n .before .before .before .before .before .before .before in
     let a = z .args in
     same-names (a .s) (a .pages .now) (a .lists .now) _ _ (c .find-pair .result)
-    (λ x e m. is-pair (a .kind) (a .first .now) (a .second .now) _ (n .head-length .result) (z .pre .kinded) (has-heads (n .before)) (n .head-length .ensures .0) (r .rest-behind .ensures) x m)
+    (λ x e m. is-pair (a .kind) (a .first .now) (a .second .now) _ (n .head-length .result) (z .pre .0 .kinded) (has-heads (n .before)) (n .head-length .ensures .0) (r .rest-behind .ensures) x m)
     (c .find-pair .ensures)
 
 pub find-name-spec : {M : Type 1} → statement M

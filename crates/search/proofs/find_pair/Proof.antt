@@ -11,7 +11,7 @@ use Rattle.bytes_index.specs.declared.Probe.the-variants.{At}
 use Rattle.bytes_index.specs.Search.{Searched}
 use Rattle.ranked_pair_dictionary.specs.FrequentId.{fid}
 use Rattle.model.specs.Kinds.{row}
-use Rattle.search.proofs.Leads.{raw-hash, lead-short, lead-length, never-refused, lead-key}
+use Rattle.search.proofs.Leads.{raw-hash, raw-short, lead-short, lead-length, never-refused, lead-key}
 use Rattle.search.proofs.Finds.{pair-at, pair-free, pair-bad}
 use Rattle.search.proofs.find_pair.Statement.{statement}
 use Rattle.search.proofs.find_pair.Tie as tie
@@ -83,15 +83,16 @@ array-share-prefix-lead-2 c = array-share-prefix-lead (c .before .before .before
 slice-aggregate-find-key : tie.Need-slice-aggregate-find-key
 slice-aggregate-find-key c = sym (length-take-le _ _ (array-share-prefix-lead-2 (c .before)))
 
-slice-aggregate-find-key-2 : tie.Need-slice-aggregate-find-key-2
-slice-aggregate-find-key-2 c = search needs
-
 find-key-requires : tie.Need-find-key-requires
 find-key-requires c κs =
-    let g = c .before .before in
-    let f = g .before .before .before .before .before .before .before .before .before .before in
-    let z = f .before .before .before .before .before .before .before in
-    (z .pre .0, raw-hash _ _ (g .before .fnv .result) (g .fnv-from .result) (g .before .fnv .ensures) (g .fnv-from .ensures))
+    let g = c .before in
+    let t = g .before .before .before .before in
+    let f = t .before .before .before .before .before .before in
+    let z = f .before .before .before .before .before .before .before in (
+      z .pre .0,
+      raw-hash _ _ (g .before .fnv .result) (g .fnv-from .result) (g .before .fnv .ensures) (g .fnv-from .ensures),
+      raw-short _ (omega (arith, length-n t, lead-short (f .f .given .0 .0), slice-aggregate-find-key c)),
+    )
 
 enum-told-2 : tie.Need-enum-told-2
 enum-told-2 c = search needs
@@ -101,7 +102,7 @@ enum-told-3 c = search needs
 
 returns-2 : tie.Need-returns-2
 returns-2 c =
-    let t = c .before .before .before .before .before .before .before in
+    let t = c .before .before .before .before .before .before in
     let w = t .before .before .before in
     let f = w .before .before .before in
     let z = f .before .before .before .before .before .before .before in
@@ -141,7 +142,6 @@ find-pair-spec =
     fnv-from-requires
     array-share-prefix-lead-2
     slice-aggregate-find-key
-    slice-aggregate-find-key-2
     find-key-requires
     enum-told-2
     enum-told-3

@@ -1,23 +1,42 @@
--- Each refusal, and either form. Assumes nothing.
-use Prim.Native.Nat.{_≤_}
+-- Each refusal, and the form in its two parts. Assumes nothing.
+use Prim.Native.Nat.{_+_, _≤_}
 use mathlib.Core.Path.{_≡_, sym, _∙_}
 use mathlib.Core.Option.{none}
 use native.Mathlib.Omega.{arith}
 use lib.ListN.{length}
 use borrow.Author.Needs.{needs}
+use Rattle.limits.specs.Limits.{packedLimit}
+use Rattle.parts.specs.declared.Mode.the-variants.{Tag}
+use Rattle.parts.specs.Parts.{bytesOf}
 use Rattle.string_dv_dict.specs.Packed.{packed, pairRefusal}
-use Rattle.string_dv_dict.proofs.Answers.{told-legal, told-illegal, length-short, length-long, placed-short, placed-long, pack-refused, pack-no-room, pack-done}
+use Rattle.string_dv_dict.proofs.Laws.{legal, length-packed}
+use Rattle.string_dv_dict.proofs.Keys.{length-key, placed-key}
+use Rattle.string_dv_dict.proofs.Answers.{told-legal, told-illegal, pack-refused, pack-no-room, pack-done}
 use Rattle.string_dv_dict.proofs.two_strings_to_one.Statement.{statement}
 use Rattle.string_dv_dict.proofs.two_strings_to_one.Tie as tie
 
--- A legal text and tag, and room for their form.
+-- A legal text and tag, whose form is within the limit; the sum, which is its length; and room for it.
 pair : (c : tie.After-enum-told) → let z = c .before .before .before .before .before .before .args in pairRefusal (z .text .now) (z .tag .now) ≡ none
 pair c = told-legal _ (sym (c .before .before .check-pair .ensures) ∙ c .enum-told .given .1)
 
+within : (c : tie.After-enum-told) →
+    let z = c .before .before .before .before .before .before .args in
+    length (bytesOf Tag (z .tag .now)) + length (z .text .now) ≤ packedLimit
+within c =
+    let z = c .before .before .before .before .before .before .args in
+    rw (length-key (z .text .now) (z .tag .now)) (length-packed (z .text .now) (z .tag .now) (legal (z .text .now) (z .tag .now) (pair c)))
+
+whole : (c : tie.After-measure) →
+    let z = c .before .before .before .before .before .before .before .args in
+    c .measure .result + length (z .text .now) ≡ length (packed (z .text .now) (z .tag .now))
+whole c =
+    let z = c .before .before .before .before .before .before .before .args in
+    rw (c .measure .ensures) (length-key (z .text .now) (z .tag .now))
+
 room : (c : tie.Else1) →
     let z = c .before .before .before .before .before .before .before .before .args in
-    length (packed (z .text .now) (z .tag .now)) ≤ length (z .buffer .now)
-room c = omega (arith, c .if1 .left, c .before .packed-length .ensures)
+    length (bytesOf Tag (z .tag .now)) + length (z .text .now) ≤ length (z .buffer .now)
+room c = omega (arith, c .if1 .left, c .before .measure .ensures)
 
 check-pair-requires : tie.Need-check-pair-requires
 check-pair-requires c κs = search needs
@@ -35,53 +54,49 @@ returns c =
 enum-told : tie.Need-enum-told
 enum-told c = search needs
 
-packed-length-requires : tie.Need-packed-length-requires
-packed-length-requires c κs = pair c
+measure-requires : tie.Need-measure-requires
+unfolding packedLimit
+measure-requires c κs = omega (arith, within c)
+
+add-n : tie.Need-add-n
+unfolding packedLimit
+add-n c = omega (arith, c .measure .ensures, within (c .before))
 
 returns-2 : tie.Need-returns-2
 returns-2 c =
-    let a = c .before .before in
-    let z = a .before .before .before .before .before .before .args in
-    let p = pack-no-room (z .text .now) (z .tag .now) (z .buffer .now) (pair a) (omega (arith, c .if1 .taken, c .before .packed-length .ensures)) in
+    let m = c .before in
+    let z = m .before .before .before .before .before .before .before .args in
+    let p = pack-no-room (z .text .now) (z .tag .now) (z .buffer .now) (pair (m .before)) (omega (arith, c .if1 .taken, whole m)) in
     (sym (p .0), sym (p .1))
 
-write-short-requires : tie.Need-write-short-requires
-write-short-requires c κs =
-    let z = c .before .before .before .before .before .before .before .before .before .before .args in
-    let h = c .before .if2 .taken in
-    (h, omega (arith, room (c .before .before), length-short (z .text .now) (z .tag .now) h))
+write-at-requires : tie.Need-write-at-requires
+write-at-requires c κs = search needs
 
-write-long-requires : tie.Need-write-long-requires
-write-long-requires c κs =
-    let z = c .before .before .before .before .before .before .before .before .before .before .args in
-    omega (arith, room (c .before .before), length-long (z .text .now) (z .tag .now) (c .before .if2 .left))
+write-at-requires-2 : tie.Need-write-at-requires-2
+unfolding bytesOf
+write-at-requires-2 c κs =
+    let w = c .before .before .before in
+    let e = w .before .before in
+    omega (arith, e .if1 .left, w .write-at .kept .1 .1 .0)
 
 same-length : tie.Need-same-length
 same-length c = search needs
 
 returns-3 : tie.Need-returns-3
+unfolding bytesOf
 returns-3 c =
-    let w = c .before .before in
-    let a = w .before .before .before in
-    let n = a .before in
-    let z = n .before .before .before .before .before .before .before .args in
-    let p = pack-done (z .text .now) (z .tag .now) (z .buffer .now) (pair (n .before)) (room a) in (
-      rw (n .packed-length .ensures) (sym (p .0)),
-      w .write-short .ensures ∙ placed-short (z .text .now) (z .tag .now) (z .buffer .now) (w .before .before .if2 .taken) ∙ sym (p .1),
-    )
-
-same-length-2 : tie.Need-same-length-2
-same-length-2 c = search needs
-
-returns-4 : tie.Need-returns-4
-returns-4 c =
-    let w = c .before .before in
-    let a = w .before .before .before in
-    let n = a .before in
-    let z = n .before .before .before .before .before .before .before .args in
-    let p = pack-done (z .text .now) (z .tag .now) (z .buffer .now) (pair (n .before)) (room a) in (
-      rw (n .packed-length .ensures) (sym (p .0)),
-      w .write-long .ensures ∙ placed-long (z .text .now) (z .tag .now) (z .buffer .now) (w .before .before .if2 .left) ∙ sym (p .1),
+    let w = c .before .before .before .before .before .before in
+    let e = w .before .before in
+    let m = e .before in
+    let z = m .before .before .before .before .before .before .before .args in
+    let text = z .text .now in
+    let tag = z .tag .now in
+    let b = z .buffer .now in
+    let p = pack-done text tag b (pair (m .before)) (omega (arith, room e, length-key text tag)) in (
+      rw (whole m) (sym (p .0)),
+      c .before .before .write-at2 .ensures
+          ∙ rw (w .write-at .ensures, m .measure .ensures) (placed-key text tag b (room e))
+          ∙ sym (p .1),
     )
 
 pub two-strings-to-one-spec : {M : Type 1} → statement M
@@ -92,11 +107,10 @@ two-strings-to-one-spec =
     enum-known-checked
     returns
     enum-told
-    packed-length-requires
+    measure-requires
+    add-n
     returns-2
-    write-short-requires
-    write-long-requires
+    write-at-requires
+    write-at-requires-2
     same-length
-    returns-3
-    same-length-2
-    returns-4)
+    returns-3)

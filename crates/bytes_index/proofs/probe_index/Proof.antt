@@ -29,8 +29,8 @@ use Rattle.bytes_index.proofs.Span.{the-type}
 use Rattle.bytes_index.proofs.Place.{place-zero, place-next}
 use Rattle.bytes_index.proofs.Index.{Passed, passed, hit, never-nothing, never-past, never-out, never-full, missed}
 use Rattle.bytes_index.proofs.Stored.{field-in, front-sized, not-front, not-all, all-bytes}
-use Rattle.bytes_index.proofs.bytes_to_id.Statement.{statement}
-use Rattle.bytes_index.proofs.bytes_to_id.Tie as tie
+use Rattle.bytes_index.proofs.probe_index.Statement.{statement}
+use Rattle.bytes_index.proofs.probe_index.Tie as tie
 
 -- The memory as functions.
 abbrev B : Bytes → ℕ → ℕ
@@ -43,27 +43,27 @@ abbrev Q : Bytes → Sizes → ℕ → ℕ → ℕ
 Q lists s d j = quadAt lists (placeAt s d j)
 
 abbrev Inv-loop : tie.InvT-loop
-Inv-loop pages lists s d h prefix mode tag rest e m places measured n top j t w q at len end left₀ left =
+Inv-loop pages lists s d h mode front rest e m places measured n top j t w q at len end left₀ left =
     (left ≤ n) × Agree pages end rest left n
 
 abbrev μ-loop : tie.MeasureT-loop
-μ-loop pages lists s d h prefix mode tag rest e m places measured n top j t w q at len end left₀ left = left
+μ-loop pages lists s d h mode front rest e m places measured n top j t w q at len end left₀ left = left
 
 abbrev Inv-probe : tie.InvT-probe
-Inv-probe pages lists s d h prefix mode tag rest e m places measured n top j₀ t₀ w₀ j t w =
+Inv-probe pages lists s d h mode front rest e m places measured n top j₀ t₀ w₀ j t w =
     (t ≤ m)
     × (j < m)
-    × (place m (fnvOf (keyOf prefix mode tag rest)) t ≡ j)
-    × ((k : ℕ) → k < t → Passed s (B pages) (W lists s d) (keyOf prefix mode tag rest) (Q lists s d (place m (fnvOf (keyOf prefix mode tag rest)) k)))
+    × (place m (fnvOf (keyOf mode front rest)) t ≡ j)
+    × ((k : ℕ) → k < t → Passed s (B pages) (W lists s d) (keyOf mode front rest) (Q lists s d (place m (fnvOf (keyOf mode front rest)) k)))
 
 abbrev μ-probe : tie.MeasureT-probe
-μ-probe pages lists s d h prefix mode tag rest e m places measured n top j₀ t₀ w₀ j t w = m - t
+μ-probe pages lists s d h mode front rest e m places measured n top j₀ t₀ w₀ j t w = m - t
 
 -- ---- places of the code, seen from later ones
 
 -- The function's start, from a turn's.
 abbrev entered : tie.At-probe Inv-loop μ-loop Inv-probe μ-probe → tie.Start Inv-loop μ-loop Inv-probe μ-probe
-entered c = c .before .before .before .before .before .before .before .before .before .before
+entered c = c .before .before .before .before .before .before .before .before .before
 
 -- A turn's start, from where the entry's bytes are known.
 abbrev turn : tie.After-known-told Inv-loop μ-loop Inv-probe μ-probe → tie.At-probe Inv-loop μ-loop Inv-probe μ-probe
@@ -120,7 +120,7 @@ more a b n P h p k l u = go (decLt b k)
 -- The hash's top bits, as they were taken before the loop.
 same-top : (c : tie.After-up Inv-loop μ-loop Inv-probe μ-probe) →
     let a = entered (c .before .before .before .before .before) .args in
-    c .before .before .before .before .before .before .before .top-bits .result ≡ topOf (fnvOf (keyOf (a .prefix .now) (a .mode) (a .tag .now) (a .rest .now)))
+    c .before .before .before .before .before .before .before .top-bits .result ≡ topOf (fnvOf (keyOf (a .mode) (a .front .now) (a .rest .now)))
 same-top c = c .before .before .before .before .before .before .before .top-bits .ensures .0 ∙ ap topOf (entered (c .before .before .before .before .before) .pre .1)
 
 -- ---- the needs
@@ -132,10 +132,10 @@ dict-at-requires : tie.Need-dict-at-requires Inv-loop μ-loop Inv-probe μ-probe
 dict-at-requires c κs = search needs
 
 add-places : tie.Need-add-places Inv-loop μ-loop Inv-probe μ-probe
-add-places c = let z = c .before .before .before .before .before .before in omega (arith, c .dict-at .ensures, dict-within (z .args .s) (z .args .d) (z .pre .0 .known))
+add-places c = let z = c .before .before .before .before .before in omega (arith, c .dict-at .ensures, dict-within (z .args .s) (z .args .d) (z .pre .0 .known))
 
 mul-places : tie.Need-mul-places Inv-loop μ-loop Inv-probe μ-probe
-mul-places c = let z = c .before .before .before .before .before .before in omega (arith, c .dict-at .ensures, dict-within (z .args .s) (z .args .d) (z .pre .0 .known))
+mul-places c = let z = c .before .before .before .before .before in omega (arith, c .dict-at .ensures, dict-within (z .args .s) (z .args .d) (z .pre .0 .known))
 
 measure-requires : tie.Need-measure-requires Inv-loop μ-loop Inv-probe μ-probe
 measure-requires c κs = search needs
@@ -148,9 +148,9 @@ start-requires c κs = omega arith
 
 probe-holds : tie.Need-probe-holds Inv-loop μ-loop Inv-probe μ-probe
 probe-holds c =
-    let z = c .before .before .before .before .before .before .before .before .before in
+    let z = c .before .before .before .before .before .before .before .before in
     let a = z .args in
-    let h = fnvOf (keyOf (a .prefix .now) (a .mode) (a .tag .now) (a .rest .now)) in
+    let h = fnvOf (keyOf (a .mode) (a .front .now) (a .rest .now)) in
     let m = 2 * a .s .e in
     let e : c .start .result ≡ h % m = c .start .ensures ∙ ap (λ (x : ℕ). x % m) (z .pre .1) in
     (omega arith, rw e (mod-lt h (omega (arith, z .pre .0 .ranged .e))), place-zero m h ∙ sym e, λ k l. absurd (omega arith))
@@ -292,7 +292,7 @@ probe-again c =
     let a = z .args in
     let p = c .before .before .before .before .before .probe in
     let q = c .before .before .before in
-    let key = keyOf (a .prefix .now) (a .mode) (a .tag .now) (a .rest .now) in
+    let key = keyOf (a .mode) (a .front .now) (a .rest .now) in
     let w = W (a .lists .now) (a .s) (a .d) in
     let n : topOf (q .quad-at .result) ≡ topOf (fnvOf key) → Stands (a .s) (B (a .pages .now)) (w (namedBy (q .quad-at .result) - 1)) key → ⊥ =
     ⊎-elim
@@ -333,8 +333,8 @@ probe-again c =
           (p .inv .2) (quad q) (g .if2 .left) n),
     )
 
-sub-t25 : tie.Need-sub-t25 Inv-loop μ-loop Inv-probe μ-probe
-sub-t25 c = omega arith
+sub-t24 : tie.Need-sub-t24 Inv-loop μ-loop Inv-probe μ-probe
+sub-t24 c = omega arith
 
 returns-6 : tie.Need-returns-6 Inv-loop μ-loop Inv-probe μ-probe
 returns-6 c =
@@ -342,7 +342,7 @@ returns-6 c =
     let z = entered (turn k) in
     let a = z .args in
     let q = quad (c .before .before .before .before .before .before .before .before .before .before .before .before .before) in
-    let key = keyOf (a .prefix .now) (a .mode) (a .tag .now) (a .rest .now) in
+    let key = keyOf (a .mode) (a .front .now) (a .rest .now) in
     let b = B (a .pages .now) in
     let w = W (a .lists .now) (a .s) (a .d) in
     let t : Stands (a .s) b (w (namedBy (c .before .before .before .before .before .before .before .before .before .before .before .before .before .quad-at .result) - 1)) key =
@@ -357,8 +357,8 @@ returns-6 c =
           (subst (λ (x : ℕ). Stands (a .s) b (w (namedBy x - 1)) key) q t));
     }
 
-pub bytes-to-id-spec : {M : Type 1} → statement M
-bytes-to-id-spec =
+pub probe-index-spec : {M : Type 1} → statement M
+probe-index-spec =
     tie.close
     (tie.spec
     Inv-loop
@@ -398,5 +398,5 @@ bytes-to-id-spec =
     add-t
     probe-less
     probe-again
-    sub-t25
+    sub-t24
     returns-6)
