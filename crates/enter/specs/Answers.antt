@@ -8,8 +8,8 @@ use Rattle.slices.specs.Bytes.{Bytes}
 use Rattle.words.specs.Words.{wordAt}
 use Rattle.refusals.specs.declared.Refusal.{Refusal}
 use Rattle.refusals.specs.declared.Refusal.the-variants as W
-use Rattle.string_dv_dict.specs.declared.Checked.{Checked}
-use Rattle.string_dv_dict.specs.declared.Checked.the-variants.{Legal, Illegal}
+use Rattle.refusals.specs.declared.Checked.{Checked}
+use Rattle.refusals.specs.declared.Checked.the-variants.{Legal, Illegal}
 use Rattle.layout.specs.declared.Sizes.{Sizes}
 use Rattle.bytes_buffer.specs.declared.Spot.{Spot}
 use Rattle.bytes_buffer.specs.declared.Spot.the-variants.{Current, Next, NoPage, Bad}

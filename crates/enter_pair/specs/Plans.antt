@@ -39,23 +39,23 @@ pub record ReadyPair (s : Sizes) (st : State) (lists : Bytes) (k size len : ℕ)
   pub block : pick s (st .blocks) k ≡ some (x .g)
   pub stamp : x .stamp ≡ stampOf (st .blocks)
 
--- Why there is no plan, the head being number h: a list is full; a page too few is left; the rule picks no block.
-pub data NoPair (s : Sizes) (st : State) (lists : Bytes) (k h size len : ℕ) : Refusal → Type 0 where
-  full : (s .e ≤ length (st .part k .names)) ⊎ (s .e ≤ h) → NoPair s st lists k h size len W.ListFull
-  pageless : length (st .part k .names) < s .e → h < s .e
+-- Why there is no plan, the head being number f: a list is full; a page too few is left; the rule picks no block.
+pub data NoPair (s : Sizes) (st : State) (lists : Bytes) (k f size len : ℕ) : Refusal → Type 0 where
+  full : (s .e ≤ length (st .part k .names)) ⊎ (s .e ≤ f) → NoPair s st lists k f size len W.ListFull
+  pageless : length (st .part k .names) < s .e → f < s .e
       → (headSpot s st lists k size ≡ NoPage) ⊎ (IsSpot (headSpot s st lists k size) × (pairSpot s st lists k size len ≡ NoPage))
-      → NoPair s st lists k h size len W.NoPage
-  blockless : length (st .part k .names) < s .e → h < s .e → IsSpot (headSpot s st lists k size) → IsSpot (pairSpot s st lists k size len)
+      → NoPair s st lists k f size len W.NoPage
+  blockless : length (st .part k .names) < s .e → f < s .e → IsSpot (headSpot s st lists k size) → IsSpot (pairSpot s st lists k size len)
       → pick s (st .blocks) k ≡ none
-      → NoPair s st lists k h size len W.NoBlock
+      → NoPair s st lists k f size len W.NoBlock
 
 abbrev pub PairPlanSays : Sizes → State → Bytes → ℕ → ℕ → ℕ → ℕ → PairPlanned → Type 0
-PairPlanSays s st lists k h size len (Ready x) = ReadyPair s st lists k size len x
-PairPlanSays s st lists k h size len (Refused why) = NoPair s st lists k h size len why
+PairPlanSays s st lists k f size len (Ready x) = ReadyPair s st lists k size len x
+PairPlanSays s st lists k f size len (Refused why) = NoPair s st lists k f size len why
 
 -- What every memory's plan has.
-pub record PairPlanFits (s : Sizes) (h size len : ℕ) (x : PairPlan) : Type 0 where
-  pub heads : h < s .e
+pub record PairPlanFits (s : Sizes) (f size len : ℕ) (x : PairPlan) : Type 0 where
+  pub heads : f < s .e
   pub number : x .n < s .e
   pub head-spotted : IsSpot (x .head)
   pub head-room : HasRoom s size (x .head)
@@ -66,12 +66,12 @@ pub record PairPlanFits (s : Sizes) (h size len : ℕ) (x : PairPlan) : Type 0 w
   pub stamp : x .stamp ≤ 4 * s .e
 
 abbrev pub PairPlanBounded : Sizes → ℕ → ℕ → ℕ → PairPlanned → Type 0
-PairPlanBounded s h size len (Ready x) = PairPlanFits s h size len x
-PairPlanBounded s h size len (Refused why) = (why ≡ W.Unopened) ⊎ Between 8 10 why
+PairPlanBounded s f size len (Ready x) = PairPlanFits s f size len x
+PairPlanBounded s f size len (Refused why) = (why ≡ W.Unopened) ⊎ Between 8 10 why
 
-pub record PlansPair (s : Sizes) (lists : Bytes) (k h size len : ℕ) (r : PairPlanned) : Type 0 where
-  pub bounded : PairPlanBounded s h size len r
-  pub right : (pages : Bytes) (st : State) → Stands s st pages lists → PairPlanSays s st lists k h size len r
+pub record PlansPair (s : Sizes) (lists : Bytes) (k f size len : ℕ) (r : PairPlanned) : Type 0 where
+  pub bounded : PairPlanBounded s f size len r
+  pub right : (pages : Bytes) (st : State) → Stands s st pages lists → PairPlanSays s st lists k f size len r
 
 -- ---- the memory after both were written
 
@@ -79,9 +79,9 @@ unfoldable pub pairPages : Sizes → Bytes → PairPlan → Bytes → Bytes → 
 pairPages s pages x head key = pagesAfter s (pagesAfter s pages (x .head) head) (x .pair) key
 
 unfoldable pub pairLists : Sizes → Bytes → ℕ → ℕ → ℕ → ℕ → PairPlan → Bytes → Bytes → Bytes
-pairLists s lists k h headPlace place x head key =
+pairLists s lists k f headPlace place x head key =
     written s
-    (listsAfter s (listsAfter s lists (row k .headsAt) h headPlace (x .head) (x .stamp) head) (row k .mainAt) (x .n) place (x .pair) (x .stamp) key)
+    (listsAfter s (listsAfter s lists (row k .headsAt) f headPlace (x .head) (x .stamp) head) (row k .mainAt) (x .n) place (x .pair) (x .stamp) key)
     k
     (x .n)
     (x .g)

@@ -15,7 +15,7 @@ pub enum Mode {
 }
 
 // The most bytes of a tag that has its length in front of it.
-const SHORT: usize = 127;
+pub const SHORT: usize = 127;
 
 // One byte as it is stored.
 enum Stored {

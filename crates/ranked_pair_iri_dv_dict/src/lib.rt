@@ -1,4 +1,5 @@
 // The split of an IRI (Nemo's ranked_pair_iri_dv_dict.rs) into a head that many IRIs share and the rest.
+use words::TOP_BITS;
 ghost use mathlib.Core.Path.{_≡_};
 ghost use mathlib.Core.Bool.{true};
 ghost use Prim.Native.Nat.{_+_, _≤_};
@@ -21,9 +22,6 @@ const NAME_BITS: usize = 0x5050505050505050;
 
 // Added to those bits of a byte, it sets the top bit exactly if one of them is set, and carries into no other byte.
 const TO_TOP: usize = 0x7F7F7F7F7F7F7F7F;
-
-// The top bit of each byte of a word.
-const TOP_BITS: usize = 0x8080808080808080;
 
 // Whether each of the eight bytes from i on has a bit that no mark has. Some bytes that are no marks, as '-' and '.', have none either.
 fn has_no_mark(iri: &[u8], i: usize) -> bool

@@ -1,4 +1,4 @@
-// Document 01's table of refusals, the one place that numbers them, and the answer that entries share which write a form.
+// Document 01's table of refusals, the one place that numbers them, and the answers that several entries share.
 ghost use mathlib.Core.Path.{_≡_};
 ghost use Rattle.refusals.specs.Numbers.{numberOf};
 
@@ -16,6 +16,12 @@ pub enum Refusal {
     ShortBuffer,
     HighNumber,
     CutForm,
+}
+
+// Whether what was checked is legal, or why not.
+pub enum Checked {
+    Legal,
+    Illegal(Refusal),
 }
 
 // The length written, or why nothing was.

@@ -3,7 +3,7 @@ use Prim.Native.Nat.{ℕ, _+_, _≤_, _<_}
 use mathlib.Core.Path.{_≡_, refl}
 use mathlib.Core.Bool.{true, false}
 use mathlib.Core.List.{_++_}
-use mathlib.Core.Option.{Option, none, some}
+use mathlib.Core.Option.{none, some}
 use native.Mathlib.Omega.{arith}
 use lib.ListN.{length, drop}
 use borrow.Author.Tests.{lt-ltb, le-ltb}
@@ -12,21 +12,10 @@ use Rattle.limits.specs.Limits.{packedLimit}
 use Rattle.refusals.specs.declared.Refusal.{Refusal}
 use Rattle.refusals.specs.declared.Refusal.the-variants.{TooLong, ShortBuffer, CutForm}
 use Rattle.refusals.specs.declared.Written.the-variants as W
-use Rattle.string_dv_dict.specs.declared.Checked.the-variants.{Legal, Illegal}
 use Rattle.string_dv_dict.specs.declared.Unpacked.{Unpacked}
 use Rattle.string_dv_dict.specs.declared.Unpacked.the-variants.{Lengths, Refused}
 use Rattle.string_dv_dict.specs.Packed.{packed, pairRefusal, accepted, textIn, tagIn}
-use Rattle.string_dv_dict.specs.Answers.{checkedBy, packAnswer, packBuffer, unpackAnswer, unpackBuffer}
-
--- ---- the check of a text and a tag
-
-pub told-legal : (o : Option Refusal) → checkedBy o ≡ Legal → o ≡ none
-told-legal none e = refl
-told-legal (some why) e = let z : _≡_ {A = ℕ} 0 1 = cc in absurd (omega arith)
-
-pub told-illegal : (o : Option Refusal) (why : Refusal) → checkedBy o ≡ Illegal why → o ≡ some why
-told-illegal none why e = let z : _≡_ {A = ℕ} 0 1 = cc in absurd (omega arith)
-told-illegal (some r) why e = cc
+use Rattle.string_dv_dict.specs.Answers.{packAnswer, packBuffer, unpackAnswer, unpackBuffer}
 
 -- ---- packing
 

@@ -11,8 +11,6 @@ use Rattle.refusals.specs.declared.Refusal.{Refusal}
 use Rattle.refusals.specs.declared.Refusal.the-variants.{TooLong, ShortBuffer, CutForm}
 use Rattle.refusals.specs.declared.Written.{Written}
 use Rattle.refusals.specs.Written.{writtenBy, placedBy}
-use Rattle.string_dv_dict.specs.declared.Checked.{Checked}
-use Rattle.string_dv_dict.specs.declared.Checked.the-variants.{Legal, Illegal}
 use Rattle.string_dv_dict.specs.declared.Unpacked.{Unpacked}
 use Rattle.string_dv_dict.specs.declared.Unpacked.the-variants.{Lengths, Refused}
 use Rattle.string_dv_dict.specs.Packed.{packed, pairRefusal, accepted, textIn, tagIn}
@@ -50,9 +48,3 @@ unpackAnswer form room = unpackedBy (textIn form) (tagIn form) (unpackRefusal fo
 -- Text before tag.
 unfoldable pub unpackBuffer : Bytes → Bytes → Bytes
 unpackBuffer form buffer = placedBy (textIn form ++ tagIn form) buffer (unpackRefusal form (length buffer))
-
--- ---- the check of a text and a tag by itself
-
-abbrev pub checkedBy : Option Refusal → Checked
-checkedBy none = Legal
-checkedBy (some why) = Illegal why

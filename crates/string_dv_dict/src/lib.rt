@@ -1,5 +1,7 @@
 // Tagged strings packed into one byte string (Nemo's string_dv_dict.rs), and unpacked again.
 use parts::Mode;
+use parts::SHORT;
+use refusals::Checked;
 use refusals::Refusal;
 use refusals::Written;
 ghost use mathlib.Core.Path.{_≡_};
@@ -8,16 +10,11 @@ ghost use Prim.Native.Nat.{_+_, _^_, _≤_, _<_};
 ghost use lib.ListN.{length};
 ghost use lib.Seq.{sets};
 ghost use Rattle.string_dv_dict.specs.Packed.{pairRefusal, accepted, before, unescape, unescaped};
-ghost use Rattle.string_dv_dict.specs.Answers.{checkedBy, packAnswer, packBuffer, unpackAnswer, unpackBuffer};
+ghost use Rattle.string_dv_dict.specs.Answers.{packAnswer, packBuffer, unpackAnswer, unpackBuffer};
+ghost use Rattle.refusals.specs.Checked.{checkedBy};
 ghost use Rattle.limits.specs.Limits.{packedLimit};
 ghost use Rattle.parts.specs.Parts.{bytesOf};
 ghost use Rattle.string_dv_dict.specs.Scans.{scanStep, scanFrom, scanned, longSplit, splitOf, formOf, ShortForm, LongForm};
-
-// Whether a text and a tag are a tagged string, or why not.
-pub enum Checked {
-    Legal,
-    Illegal(Refusal),
-}
 
 // Both lengths, or why nothing was written.
 pub enum Unpacked {
@@ -176,7 +173,7 @@ fn locate_short(form: &[u8], n: usize) -> Form
     requires { ⌜ ShortForm (now form) n ⌝ }
     ensures { λ r. ⌜ r ≡ formOf (now (form .entry)) ⌝ }
 {
-    if 127 < n {
+    if SHORT < n {
         return Form::Cut;
     }
     let checked = check_pair(&form[n + 1..], &form[1..n + 1]);
@@ -190,7 +187,7 @@ fn locate_long(form: &[u8], end: usize, n: usize) -> Form
     requires { ⌜ LongForm (now form) end n ⌝ }
     ensures { λ r. ⌜ r ≡ formOf (now (form .entry)) ⌝ }
 {
-    if n <= 127 {
+    if n <= SHORT {
         return Form::Cut;
     }
     let text = &form[end + 2..];

@@ -1,4 +1,5 @@
 // Whether a run of bytes is UTF-8, as RFC 3629 has it: no surrogate, nothing above U+10FFFF, no character written longer than it need be.
+use words::TOP_BITS;
 ghost use mathlib.Core.Path.{_≡_};
 ghost use Prim.Native.Nat.{_+_, _≤_, _<_};
 ghost use lib.ListN.{length, take, drop};
@@ -84,10 +85,7 @@ fn char_end(s: &[u8], i: usize) -> End
     End::At(k)
 }
 
-// The top bit of each byte of a word. A plain byte, a character by itself, has none.
-const TOP_BITS: usize = 0x8080808080808080;
-
-// Whether the eight bytes from i on are plain.
+// Whether the eight bytes from i on are plain. A plain byte, a character by itself, has no top bit.
 fn is_plain(s: &[u8], i: usize) -> bool
     requires { ⌜ i + 8 ≤ length (now s) ⌝ }
     ensures { λ r. ⌜ r ≡ plain (take 8 (drop i (now (s .entry)))) ⌝ }

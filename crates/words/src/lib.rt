@@ -5,6 +5,9 @@ ghost use Prim.Native.Nat.{_+_, _*_, _≤_, _<_};
 ghost use lib.ListN.{length};
 ghost use Rattle.words.specs.Words.{leAt, wordAt, setWord, quadAt, setQuad};
 
+// The top bit of each byte of a word.
+pub const TOP_BITS: usize = 0x8080808080808080;
+
 fn wide(x: u8) -> usize
     ensures { λ r. ⌜ (r ≡ x) × (r < 256) ⌝ }
 {

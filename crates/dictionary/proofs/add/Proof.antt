@@ -4,7 +4,7 @@ use mathlib.Core.Option.{none}
 use lib.ListN.{length}
 use Rattle.layout.specs.declared.Header.the-variants.{Opened}
 use Rattle.layout.specs.Header.{headerOf}
-use Rattle.string_dv_dict.proofs.Answers.{told-legal, told-illegal}
+use Rattle.refusals.proofs.Told.{told-legal, told-illegal}
 use Rattle.model.specs.Names.{entered}
 use Rattle.names.specs.Checks.{shapeRefusal}
 use Rattle.names.proofs.Checks.{shape-refused, shape-kind, shape-size}

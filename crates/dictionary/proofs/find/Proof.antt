@@ -6,7 +6,7 @@ use lib.ListN.{length}
 use Rattle.layout.specs.declared.Header.the-variants.{Opened}
 use Rattle.layout.specs.Header.{headerOf}
 use Rattle.meta_dv_dict.specs.Answers.{Globals}
-use Rattle.string_dv_dict.proofs.Answers.{told-legal, told-illegal}
+use Rattle.refusals.proofs.Told.{told-legal, told-illegal}
 use Rattle.model.specs.Names.{entered}
 use Rattle.model.specs.Steps.{checks}
 use Rattle.names.specs.Checks.{shapeRefusal}

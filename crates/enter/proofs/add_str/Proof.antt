@@ -8,7 +8,7 @@ use Rattle.parts.specs.Parts.{bytesOf}
 use Rattle.bytes_index.specs.declared.Probe.{Probe}
 use Rattle.bytes_index.specs.Search.{keyOf, Searched}
 use Rattle.bytes_dictionary.proofs.Keys.{length-key}
-use Rattle.string_dv_dict.proofs.Answers.{told-legal, told-illegal}
+use Rattle.refusals.proofs.Told.{told-legal, told-illegal}
 use Rattle.model.specs.Names.{entered}
 use Rattle.model.specs.Kinds.{row}
 use Rattle.names.specs.Checks.{textRefusal}

@@ -4,7 +4,7 @@ use mathlib.Core.Option.{none}
 use native.Mathlib.Omega.{arith}
 use Rattle.bytes_index.specs.declared.Probe.the-variants.{At}
 use Rattle.bytes_index.specs.Search.{Searched}
-use Rattle.string_dv_dict.proofs.Answers.{told-legal, told-illegal}
+use Rattle.refusals.proofs.Told.{told-legal, told-illegal}
 use Rattle.model.specs.Names.{entered}
 use Rattle.model.specs.Kinds.{row}
 use Rattle.names.specs.Checks.{textRefusal}

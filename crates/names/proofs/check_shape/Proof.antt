@@ -9,7 +9,7 @@ use borrow.Author.Tests.{lt-ltb, le-ltb}
 use Rattle.limits.specs.Limits.{nameLimit}
 use Rattle.refusals.specs.declared.Refusal.the-variants.{BadKind, TooLong}
 use Rattle.layout.specs.declared.Sizes.{Sizes}
-use Rattle.string_dv_dict.specs.Answers.{checkedBy}
+use Rattle.refusals.specs.Checked.{checkedBy}
 use Rattle.model.specs.Names.{Name, entered, size}
 use Rattle.model.specs.Steps.{badKind}
 use Rattle.names.specs.Checks.{shapeRefusal}

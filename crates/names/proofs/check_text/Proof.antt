@@ -9,7 +9,7 @@ use lib.ListN.{length}
 use Rattle.slices.specs.Bytes.{isEmpty}
 use Rattle.utf8.specs.Text.{isText}
 use Rattle.refusals.specs.declared.Refusal.the-variants.{NotText, NoTag}
-use Rattle.string_dv_dict.specs.Answers.{checkedBy}
+use Rattle.refusals.specs.Checked.{checkedBy}
 use Rattle.model.specs.Names.{Name, entered}
 use Rattle.model.specs.Kinds.{row}
 use Rattle.names.specs.Checks.{textRefusal}

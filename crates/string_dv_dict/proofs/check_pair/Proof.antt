@@ -13,7 +13,7 @@ use Rattle.limits.specs.Limits.{nameLimit}
 use Rattle.utf8.specs.Text.{isText}
 use Rattle.refusals.specs.declared.Refusal.the-variants.{TooLong, NotText, NoTag}
 use Rattle.string_dv_dict.specs.Packed.{pairRefusal}
-use Rattle.string_dv_dict.specs.Answers.{checkedBy}
+use Rattle.refusals.specs.Checked.{checkedBy}
 use Rattle.string_dv_dict.proofs.Laws.{filled, is-legal}
 use Rattle.string_dv_dict.proofs.check_pair.Statement.{statement}
 use Rattle.string_dv_dict.proofs.check_pair.Tie as tie

@@ -7,9 +7,9 @@ use native.Mathlib.Omega.{arith}
 use denote.Enum.Declared.{tagOf}
 use borrow.Author.Needs.{needs}
 use Rattle.refusals.specs.declared.Refusal.{Refusal}
-use Rattle.string_dv_dict.specs.Answers.{checkedBy}
-use Rattle.string_dv_dict.proofs.Checked.{the-type}
-use Rattle.string_dv_dict.proofs.Answers.{told-legal}
+use Rattle.refusals.specs.Checked.{checkedBy}
+use Rattle.refusals.proofs.Checked.{the-type}
+use Rattle.refusals.proofs.Told.{told-legal}
 use Rattle.string_dv_dict.proofs.Laws.{unpack-pack}
 use Rattle.string_dv_dict.proofs.Located.{short-pair, short-low, short-taken, taken-form, cut-form}
 use Rattle.string_dv_dict.proofs.locate_short.Statement.{statement}

@@ -11,7 +11,8 @@ use Rattle.parts.specs.Parts.{bytesOf}
 use Rattle.string_dv_dict.specs.Packed.{packed, pairRefusal}
 use Rattle.string_dv_dict.proofs.Laws.{legal, length-packed}
 use Rattle.string_dv_dict.proofs.Keys.{length-key, placed-key}
-use Rattle.string_dv_dict.proofs.Answers.{told-legal, told-illegal, pack-refused, pack-no-room, pack-done}
+use Rattle.refusals.proofs.Told.{told-legal, told-illegal}
+use Rattle.string_dv_dict.proofs.Answers.{pack-refused, pack-no-room, pack-done}
 use Rattle.string_dv_dict.proofs.two_strings_to_one.Statement.{statement}
 use Rattle.string_dv_dict.proofs.two_strings_to_one.Tie as tie
 
