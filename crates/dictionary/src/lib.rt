@@ -103,8 +103,9 @@ pub fn find<'a>(
         return FindResult::Refused(why);
     }
     // The text is checked after the search, which does not wait for it.
-    let found = search::find_name(pages, lists, s, kind, first, second);
-    if let Checked::Illegal(why) = names::check_text(kind, first, second) {
+    let x = search::find_name(pages, lists, s, kind, first, second);
+    let found = x.found;
+    if let Checked::Illegal(why) = names::check_text(kind, first, second, x.plain) {
         return FindResult::Refused(why);
     }
     match found {

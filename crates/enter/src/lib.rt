@@ -15,9 +15,11 @@ use parts::Mode;
 use refusals::Checked;
 use refusals::Refusal;
 ghost use mathlib.Core.Path.{_≡_};
+ghost use mathlib.Core.Bool.{true};
 ghost use Prim.Native.Nat.{_≤_, _<_};
 ghost use lib.ListN.{length};
 ghost use Rattle.fnv.specs.Fnv.{fnvOf};
+ghost use Rattle.utf8.specs.Text.{isText};
 ghost use Rattle.layout.specs.Sizes.{InRange, kinds, listBytes};
 ghost use Rattle.bytes_index.specs.Search.{keyOf, Searched};
 ghost use Rattle.bytes_index.specs.declared.Probe.the-variants.{Free};
@@ -191,7 +193,7 @@ fn add_entry(
 }
 
 // Adds a name of the kind k by its key, whose hash is h, or finds it there (Nemo's add_str). Its text is checked after the search, which does
-// not wait for it.
+// not wait for it; or it is known to be plain.
 pub fn add_str(
     pages: &mut [u8],
     lists: &mut [u8],
@@ -199,6 +201,7 @@ pub fn add_str(
     k: usize,
     first: &[u8],
     second: &[u8],
+    plain: bool,
     h: u32,
     mode: Mode,
     front: &[u8],
@@ -207,11 +210,12 @@ pub fn add_str(
     requires { ⌜ Lent s (now pages) (now lists) k ⌝ }
     requires { ⌜ length (keyOf mode (now front) (now rest)) ≤ 8192 ⌝ }
     requires { ⌜ h ≡ fnvOf (keyOf mode (now front) (now rest)) ⌝ }
+    requires { ⌜ (plain ≡ true → (isText (now first) ≡ true) × (isText (now second) ≡ true)) ⌝ }
     ensures { λ r. ⌜ Judged (textRefusal (entered k (now (first .entry)) (now (second .entry)))) s (HasKey k (keyOf mode (now (front .entry)) (now (rest .entry)))) (now (pages .entry)) (now (lists .entry)) (addedBy r) (now (pages .exit)) (now (lists .exit)) ⌝ }
 {
     let d = names::main_dictionary(k);
     let found = bytes_index::bytes_to_id(pages, lists, s, d, h, mode, front, rest);
-    if let Checked::Illegal(why) = names::check_text(k, first, second) {
+    if let Checked::Illegal(why) = names::check_text(k, first, second, plain) {
         return AddResult::Refused(why);
     }
     match found {

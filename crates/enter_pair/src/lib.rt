@@ -16,10 +16,12 @@ use refusals::Refusal;
 use refusals::Written;
 ghost use mathlib.Core.Path.{_≡_};
 ghost use mathlib.Core.Bool.{true};
+ghost use mathlib.Core.Option.{none};
 ghost use mathlib.Core.List.{_++_};
 ghost use Prim.Native.Nat.{_+_, _*_, _%_, _^_, _≤_, _<_};
 ghost use lib.ListN.{length};
-ghost use Rattle.fnv.specs.Fnv.{fnvOf};
+ghost use Rattle.fnv.specs.Fnv.{fnvOf, bitsFrom};
+ghost use Rattle.utf8.specs.Text.{isText};
 ghost use Rattle.limits.specs.Limits.{nameLimit};
 ghost use Rattle.layout.specs.Sizes.{InRange, kinds, listBytes};
 ghost use Rattle.ranked_pair_dictionary.specs.FrequentId.{fid};
@@ -28,7 +30,7 @@ ghost use Rattle.bytes_index.specs.declared.Probe.the-variants.{Free};
 ghost use Rattle.model.specs.Names.{entered};
 ghost use Rattle.model.specs.Answers.{AddAnswer};
 ghost use Rattle.model.specs.Kinds.{row};
-ghost use Rattle.names.specs.Checks.{textRefusal};
+ghost use Rattle.names.specs.Checks.{shapeRefusal, textRefusal};
 ghost use Rattle.enter.specs.Answers.{addedBy};
 ghost use Rattle.enter.specs.Added.{Lent, Added, Judged, HasKey, HasPair};
 ghost use Rattle.enter_pair.specs.Plans.{PlansPair, PairPlanFits, pairPages, pairLists};
@@ -188,7 +190,7 @@ fn add_both(
     }
 }
 
-// Adds a name whose head is stored, under the number f: the pair of f and the rest.
+// Adds a name whose head is stored, under the number f: the pair of f and the rest. `bits` are those of the head's bytes.
 fn add_behind(
     pages: &mut [u8],
     lists: &mut [u8],
@@ -196,19 +198,34 @@ fn add_behind(
     k: usize,
     first: &[u8],
     second: &[u8],
+    bits: u8,
     f: usize,
     rest: &[u8],
 ) -> AddResult
     requires { ⌜ Lent s (now pages) (now lists) k × (f < s .e) × (length (now rest) ≤ nameLimit) ⌝ }
+    requires { ⌜ (bitsFrom bits (now rest) < 128 → (isText (now first) ≡ true) × (isText (now second) ≡ true)) ⌝ }
     ensures { λ r. ⌜ Judged (textRefusal (entered k (now (first .entry)) (now (second .entry)))) s (HasKey k (fid f ++ now (rest .entry))) (now (pages .entry)) (now (lists .entry)) (addedBy r) (now (pages .exit)) (now (lists .exit)) ⌝ }
 {
     let mut lead = [0u8; 4];
     let Written::Length(m) = ranked_pair_dictionary::write_frequent_id(f, &mut lead) else {
         return AddResult::Refused(Refusal::Unopened);
     };
-    let h = fnv::fnv_from(fnv::fnv(&lead[..m]), rest);
+    let y = fnv::scan(fnv::fnv(&lead[..m]), bits, rest);
+    let plain = y.bits < 0x80;
     let front = &lead[..m];
-    enter::add_str(pages, lists, s, k, first, second, h, Mode::Raw, front, rest)
+    enter::add_str(
+        pages,
+        lists,
+        s,
+        k,
+        first,
+        second,
+        plain,
+        y.h,
+        Mode::Raw,
+        front,
+        rest,
+    )
 }
 
 // Adds a name with a head and a rest: the head, if it is new, and the pair of its number and the rest; or finds the pair there. The text is
@@ -224,13 +241,16 @@ fn add_pair(
     rest: &[u8],
 ) -> AddResult
     requires { ⌜ Lent s (now pages) (now lists) k × (row k .paired ≡ true) × (length (now head) + length (now rest) ≤ nameLimit) ⌝ }
+    requires { ⌜ (bitsFrom (bitsFrom 0 (now head)) (now rest) < 128 → (isText (now first) ≡ true) × (isText (now second) ≡ true)) ⌝ }
     ensures { λ r. ⌜ Judged (textRefusal (entered k (now (first .entry)) (now (second .entry)))) s (HasPair k (now (head .entry)) (now (rest .entry))) (now (pages .entry)) (now (lists .entry)) (addedBy r) (now (pages .exit)) (now (lists .exit)) ⌝ }
 {
-    let found = search::find_head(pages, lists, s, k, head);
+    let x = fnv::scan(fnv::START, 0, head);
+    let bits = x.bits;
+    let found = search::find_head(pages, lists, s, k, x.h, head);
     if let Probe::At(f) = found {
-        return add_behind(pages, lists, s, k, first, second, f, rest);
+        return add_behind(pages, lists, s, k, first, second, bits, f, rest);
     }
-    if let Checked::Illegal(why) = names::check_text(k, first, second) {
+    if let Checked::Illegal(why) = names::check_text(k, first, second, false) {
         return AddResult::Refused(why);
     }
     let Probe::Free(headplace) = found else {
@@ -243,8 +263,10 @@ fn add_tagged(pages: &mut [u8], lists: &mut [u8], s: Sizes, text: &[u8], tag: &[
     requires { ⌜ Lent s (now pages) (now lists) 2 × (length (now text) + length (now tag) ≤ nameLimit) ⌝ }
     ensures { λ r. ⌜ Judged (textRefusal (entered 2 (now (text .entry)) (now (tag .entry)))) s (λ st a. a ≡ entered 2 (now (text .entry)) (now (tag .entry))) (now (pages .entry)) (now (lists .entry)) (addedBy r) (now (pages .exit)) (now (lists .exit)) ⌝ }
 {
-    let h = bytes_index::hash(Mode::Tag, tag, text);
-    enter::add_str(pages, lists, s, TAGGED, text, tag, h, Mode::Tag, tag, text)
+    let k = TAGGED;
+    let mode = Mode::Tag;
+    let h = bytes_index::hash(mode, tag, text);
+    enter::add_str(pages, lists, s, k, text, tag, false, h, mode, tag, text)
 }
 
 // Adds a name of legal shape, or finds it there; or refuses it for its text. Both parts have one lifetime, since the rest may lie in either.
@@ -256,12 +278,13 @@ pub fn add_name<'a>(
     first: &'a [u8],
     second: &'a [u8],
 ) -> AddResult
-    requires { ⌜ Lent s (now pages) (now lists) kind × (length (now first) + length (now second) ≤ nameLimit) ⌝ }
+    requires { ⌜ Lent s (now pages) (now lists) kind × (shapeRefusal s (entered kind (now first) (now second)) ≡ none) ⌝ }
     ensures { λ r. ⌜ Judged (textRefusal (entered kind (now (first .entry)) (now (second .entry)))) s (λ st a. a ≡ entered kind (now (first .entry)) (now (second .entry))) (now (pages .entry)) (now (lists .entry)) (addedBy r) (now (pages .exit)) (now (lists .exit)) ⌝ }
 {
     if kind == PLAIN {
         let none = &first[..0];
-        let h = fnv::fnv(first);
+        let x = fnv::scan(fnv::START, 0, first);
+        let plain = x.bits < 0x80;
         return enter::add_str(
             pages,
             lists,
@@ -269,7 +292,8 @@ pub fn add_name<'a>(
             PLAIN,
             first,
             second,
-            h,
+            plain,
+            x.h,
             Mode::Raw,
             none,
             first,

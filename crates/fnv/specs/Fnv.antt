@@ -1,7 +1,7 @@
 -- FNV-1a of 32 bits, as document 01 has it: start 2166136261, prime 16777619, wrapping. Assumes nothing.
 use mathlib.Core.List.{[], _∷_}
 use Prim.Native.Nat.{ℕ, _*_, _%_, _^_}
-use lib.Bits.{bitXor}
+use lib.Bits.{bitOr, bitXor}
 use Rattle.slices.specs.Bytes.{Bytes}
 
 -- One byte taken in.
@@ -15,3 +15,8 @@ fnvFrom h (b ∷ s) = fnvFrom (fnvStep h b) s
 
 unfoldable pub fnvOf : Bytes → ℕ
 fnvOf s = fnvFrom 2166136261 s
+
+-- The bits of b, and each bit that one of the bytes has.
+unfoldable pub bitsFrom : ℕ → Bytes → ℕ
+bitsFrom b [] = b
+bitsFrom b (x ∷ s) = bitsFrom (bitOr b x) s

@@ -1,7 +1,7 @@
 // FNV-1a of 32 bits: where the search for a stored byte string starts.
 ghost use mathlib.Core.Path.{_≡_};
 ghost use Prim.Native.Nat.{_*_, _%_, _^_, _<_};
-ghost use Rattle.fnv.specs.Fnv.{fnvStep, fnvFrom, fnvOf};
+ghost use Rattle.fnv.specs.Fnv.{fnvStep, fnvFrom, fnvOf, bitsFrom};
 
 // The hash of no bytes.
 pub const START: u32 = 2166136261;
@@ -28,17 +28,33 @@ pub fn fnv_step(h: u32, b: u8) -> u32
     wrapping_mul(h ^ wide(b), 16777619)
 }
 
+// A hash, and each bit that one of the bytes has: below 0x80 every byte is plain, and with it text.
+pub struct Scanned {
+    pub h: u32,
+    pub bits: u8,
+}
+
+// The hash `start` and the bits taken on over the bytes of s. A step of the hash waits for the one before, and the bits come for nothing.
+pub fn scan(start: u32, bits: u8, s: &[u8]) -> Scanned
+    ensures { λ r. ⌜ (r .h ≡ fnvFrom start (now (s .entry))) × (r .bits ≡ bitsFrom bits (now (s .entry))) ⌝ }
+{
+    let mut h = start;
+    let mut seen = bits;
+    let mut i = 0;
+    while i < s.len() {
+        h = fnv_step(h, s[i]);
+        seen |= s[i];
+        i += 1;
+    }
+    Scanned { h, bits: seen }
+}
+
 // The hash `start` taken on over the bytes of s.
 pub fn fnv_from(start: u32, s: &[u8]) -> u32
     ensures { λ r. ⌜ r ≡ fnvFrom start (now (s .entry)) ⌝ }
 {
-    let mut h = start;
-    let mut i = 0;
-    while i < s.len() {
-        h = fnv_step(h, s[i]);
-        i += 1;
-    }
-    h
+    let x = scan(start, 0, s);
+    x.h
 }
 
 // The hash of a byte string.

@@ -1,11 +1,15 @@
 -- The two halves of a name's check make the whole. Assumes nothing.
-use Prim.Native.Nat.{_<_, _≤_}
-use mathlib.Core.Path.{_≡_, _∙_}
+use Prim.Native.Nat.{ℕ, _<_, _≤_}
+use mathlib.Core.Path.{_≡_, refl, _∙_}
+use mathlib.Core.Bool.{false, not}
+use mathlib.Core.List.{[], _∷_}
+use native.Mathlib.Omega.{arith}
 use mathlib.Core.Logic.{inl, inr}
 use mathlib.Core.Option.{Option, none, some}
 use borrow.Author.Tests.{leb-false, ltb-false}
 use lib.Dec.{leb, ltb}
-use Rattle.slices.proofs.Tests.{Split, split, or-left, passed}
+use Rattle.slices.specs.Bytes.{Bytes, isEmpty}
+use Rattle.slices.proofs.Tests.{Split, split, or-left, or-right, passed}
 use Rattle.refusals.specs.declared.Refusal.{Refusal}
 use Rattle.refusals.specs.declared.Refusal.the-variants.{BadKind, TooLong}
 use Rattle.layout.specs.declared.Sizes.{Sizes}
@@ -13,6 +17,7 @@ use Rattle.layout.specs.Sizes.{kinds}
 use Rattle.model.specs.Names.{Name, size, limit}
 use Rattle.model.specs.Steps.{badKind, checks}
 use Rattle.names.specs.Checks.{shapeRefusal, textRefusal}
+use Rattle.names.proofs.Rows.{one-part}
 
 -- The first half's refusal if there is one, else the second's.
 abbrev pub firstOf : Option Refusal → Option Refusal → Option Refusal
@@ -44,3 +49,12 @@ module _ (s : Sizes) (a : Name) where
   pub shape-size : shapeRefusal s a ≡ none → size a ≤ limit s
   unfolding shapeRefusal
   shape-size e = ltb-false (limit s) (size a) (passed (ltb (limit s) (size a)) TooLong none (passed (badKind a) BadKind _ e .1) .0)
+
+  -- Where there may be no second part, there is none.
+  pub shape-second : shapeRefusal s a ≡ none → a .kind < 2 → a .second ≡ []
+  unfolding shapeRefusal
+  shape-second e l = go (a .second) (rw (one-part (a .kind) l) at (or-right (leb kinds (a .kind)) _ (passed (badKind a) BadKind _ e .0)))
+    where
+      go : (x : Bytes) → not (isEmpty x) ≡ false → x ≡ []
+      go [] e = refl
+      go (b ∷ x) e = let z : _≡_ {A = ℕ} 0 1 = cc in absurd (omega arith)

@@ -7,11 +7,12 @@ use ranked_pair_iri_dv_dict::Head;
 use refusals::Checked;
 use refusals::Refusal;
 ghost use mathlib.Core.Path.{_≡_};
-ghost use mathlib.Core.Bool.{true};
+ghost use mathlib.Core.Bool.{true, _&&_};
 ghost use mathlib.Core.List.{[]};
 ghost use Prim.Native.Nat.{_<_, _≤_};
 ghost use lib.ListN.{length};
 ghost use Rattle.layout.specs.Sizes.{kinds, dictionaries};
+ghost use Rattle.utf8.specs.Text.{isText};
 ghost use Rattle.refusals.specs.Checked.{checkedBy};
 ghost use Rattle.model.specs.Names.{entered};
 ghost use Rattle.model.specs.Kinds.{row};
@@ -90,14 +91,26 @@ pub fn check_shape(s: Sizes, kind: usize, first: &[u8], second: &[u8]) -> Checke
     Checked::Legal
 }
 
-// Refusals 6 and 7 of a name.
-pub fn check_text(kind: usize, first: &[u8], second: &[u8]) -> Checked
+// Whether both parts are text. Plain: it is known already.
+fn are_text(first: &[u8], second: &[u8], plain: bool) -> bool
+    requires { ⌜ (plain ≡ true → (isText (now first) ≡ true) × (isText (now second) ≡ true)) ⌝ }
+    ensures { λ r. ⌜ r ≡ (isText (now (first .entry)) && isText (now (second .entry))) ⌝ }
+{
+    if plain {
+        return true;
+    }
+    if !utf8::is_text(first) {
+        return false;
+    }
+    utf8::is_text(second)
+}
+
+// Refusals 6 and 7 of a name. Plain: the caller has met no byte of the name that is not a character by itself.
+pub fn check_text(kind: usize, first: &[u8], second: &[u8], plain: bool) -> Checked
+    requires { ⌜ (plain ≡ true → (isText (now first) ≡ true) × (isText (now second) ≡ true)) ⌝ }
     ensures { λ r. ⌜ r ≡ checkedBy (textRefusal (entered kind (now (first .entry)) (now (second .entry)))) ⌝ }
 {
-    if !utf8::is_text(first) {
-        return Checked::Illegal(Refusal::NotText);
-    }
-    if !utf8::is_text(second) {
+    if !are_text(first, second, plain) {
         return Checked::Illegal(Refusal::NotText);
     }
     if kind == TAGGED && second.len() == 0 {

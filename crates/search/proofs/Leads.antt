@@ -30,6 +30,11 @@ raw-hash front rest g h p q = q ∙ ap (λ (x : ℕ). fnvFrom x rest) p ∙ sym 
 pub whole-hash : (key : Bytes) (h : ℕ) → h ≡ fnvOf key → h ≡ fnvOf (keyOf Raw [] key)
 whole-hash key h p = p ∙ ap fnvOf (sym (raw-key [] key))
 
+-- A scan of the whole key.
+pub scanned-hash : (key : Bytes) (h : ℕ) → h ≡ fnvFrom 2166136261 key → h ≡ fnvOf key
+unfolding fnvOf
+scanned-hash key h p = p
+
 -- A front of a few bytes can be counted.
 pub raw-short : (front : Bytes) → length front ≤ 4 → length (bytesOf Raw front) < 2 ^ 64
 unfolding bytesOf

@@ -1,2 +1,3 @@
 pub mod Leads
 pub mod Finds
+pub mod Plain

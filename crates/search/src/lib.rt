@@ -11,12 +11,15 @@ ghost use mathlib.Core.Path.{_≡_};
 ghost use mathlib.Core.Bool.{true};
 ghost use Prim.Native.Nat.{_+_, _^_, _≤_, _<_};
 ghost use lib.ListN.{length};
-ghost use Rattle.fnv.specs.Fnv.{fnvOf};
+ghost use mathlib.Core.Option.{none};
+ghost use Rattle.fnv.specs.Fnv.{fnvOf, bitsFrom};
+ghost use Rattle.utf8.specs.Text.{isText};
 ghost use Rattle.limits.specs.Limits.{nameLimit};
 ghost use Rattle.parts.specs.Parts.{bytesOf};
 ghost use Rattle.bytes_index.specs.Search.{keyOf, Searched};
 ghost use Rattle.model.specs.Names.{entered};
 ghost use Rattle.model.specs.Kinds.{row};
+ghost use Rattle.names.specs.Checks.{shapeRefusal};
 ghost use Rattle.search.specs.Found.{Lent, FindsKey, FindsName, IsPair};
 
 // A name's local number. Bad: the memory is no dictionary's.
@@ -26,22 +29,20 @@ pub enum Search {
     Bad,
 }
 
-// The search for a head of the kind k.
-pub fn find_head(pages: &[u8], lists: &[u8], s: Sizes, k: usize, head: &[u8]) -> Probe
-    requires { ⌜ Lent s (now pages) (now lists) k × (row k .paired ≡ true) ⌝ }
+// What is told of a name that was searched for. Plain: all of its bytes were met, and each is a character by itself.
+pub struct Sought {
+    pub found: Search,
+    pub plain: bool,
+}
+
+// The search for a head of the kind k, whose hash is h.
+pub fn find_head(pages: &[u8], lists: &[u8], s: Sizes, k: usize, h: u32, head: &[u8]) -> Probe
+    requires { ⌜ Lent s (now pages) (now lists) k × (row k .paired ≡ true) × (h ≡ fnvOf (now head)) ⌝ }
     ensures { λ r. ⌜ Searched s (row k .headsAt) (now (pages .entry)) (now (lists .entry)) (now (head .entry)) r ⌝ }
 {
     let none = &head[..0];
-    bytes_index::bytes_to_id(
-        pages,
-        lists,
-        s,
-        names::head_dictionary(k),
-        fnv::fnv(head),
-        Mode::Raw,
-        none,
-        head,
-    )
+    let d = names::head_dictionary(k);
+    bytes_index::bytes_to_id(pages, lists, s, d, h, Mode::Raw, none, head)
 }
 
 // The search for a key, whose hash is h, among the names of the kind k.
@@ -67,22 +68,37 @@ fn find_key(
 }
 
 // The search for a head and a rest.
-fn find_pair(pages: &[u8], lists: &[u8], s: Sizes, k: usize, head: &[u8], rest: &[u8]) -> Search
+fn find_pair(pages: &[u8], lists: &[u8], s: Sizes, k: usize, head: &[u8], rest: &[u8]) -> Sought
     requires { ⌜ Lent s (now pages) (now lists) k × (row k .paired ≡ true) ⌝ }
-    ensures { λ r. ⌜ FindsName s (IsPair k (now (head .entry)) (now (rest .entry))) (now (pages .entry)) (now (lists .entry)) r ⌝ }
+    ensures found { λ r. ⌜ FindsName s (IsPair k (now (head .entry)) (now (rest .entry))) (now (pages .entry)) (now (lists .entry)) (r .found) ⌝ }
+    ensures plain { λ r. ⌜ (r .plain ≡ true → bitsFrom (bitsFrom 0 (now (head .entry))) (now (rest .entry)) < 128) ⌝ }
 {
-    match find_head(pages, lists, s, k, head) {
+    let x = fnv::scan(fnv::START, 0, head);
+    match find_head(pages, lists, s, k, x.h, head) {
         Probe::At(f) => {
             let mut lead = [0u8; 4];
             let written = ranked_pair_dictionary::write_frequent_id(f, &mut lead);
             let Written::Length(n) = written else {
-                return Search::Bad;
+                return Sought {
+                    found: Search::Bad,
+                    plain: false,
+                };
             };
-            let h = fnv::fnv_from(fnv::fnv(&lead[..n]), rest);
-            find_key(pages, lists, s, k, h, Mode::Raw, &lead[..n], rest)
+            let y = fnv::scan(fnv::fnv(&lead[..n]), x.bits, rest);
+            let found = find_key(pages, lists, s, k, y.h, Mode::Raw, &lead[..n], rest);
+            Sought {
+                found,
+                plain: y.bits < 0x80,
+            }
         }
-        Probe::Free(_) => Search::Nothing,
-        Probe::Bad => Search::Bad,
+        Probe::Free(_) => Sought {
+            found: Search::Nothing,
+            plain: false,
+        },
+        Probe::Bad => Sought {
+            found: Search::Bad,
+            plain: false,
+        },
     }
 }
 
@@ -94,7 +110,7 @@ fn find_tagged(pages: &[u8], lists: &[u8], s: Sizes, text: &[u8], tag: &[u8]) ->
     find_key(pages, lists, s, TAGGED, h, Mode::Tag, tag, text)
 }
 
-// The local number of a legal name. Only its shape is asked for: whether it is text may be told later. Both parts have one lifetime, since the rest may lie in either.
+// The local number of a name of legal shape, if it is legal, and whether it is plain. Both parts have one lifetime, since the rest may lie in either.
 pub fn find_name<'a>(
     pages: &[u8],
     lists: &[u8],
@@ -102,17 +118,26 @@ pub fn find_name<'a>(
     kind: usize,
     first: &'a [u8],
     second: &'a [u8],
-) -> Search
-    requires { ⌜ Lent s (now pages) (now lists) kind × (length (now first) + length (now second) ≤ nameLimit) ⌝ }
-    ensures { λ r. ⌜ FindsName s (λ a. a ≡ entered kind (now (first .entry)) (now (second .entry))) (now (pages .entry)) (now (lists .entry)) r ⌝ }
+) -> Sought
+    requires { ⌜ Lent s (now pages) (now lists) kind × (shapeRefusal s (entered kind (now first) (now second)) ≡ none) ⌝ }
+    ensures found { λ r. ⌜ FindsName s (λ a. a ≡ entered kind (now (first .entry)) (now (second .entry))) (now (pages .entry)) (now (lists .entry)) (r .found) ⌝ }
+    ensures plain { λ r. ⌜ (r .plain ≡ true → (isText (now (first .entry)) ≡ true) × (isText (now (second .entry)) ≡ true)) ⌝ }
 {
     if kind == PLAIN {
         let none = &first[..0];
-        let h = fnv::fnv(first);
-        return find_key(pages, lists, s, PLAIN, h, Mode::Raw, none, first);
+        let x = fnv::scan(fnv::START, 0, first);
+        let found = find_key(pages, lists, s, PLAIN, x.h, Mode::Raw, none, first);
+        return Sought {
+            found,
+            plain: x.bits < 0x80,
+        };
     }
     if kind == TAGGED {
-        return find_tagged(pages, lists, s, first, second);
+        // Most labels have a letter that is not plain.
+        return Sought {
+            found: find_tagged(pages, lists, s, first, second),
+            plain: false,
+        };
     }
     // An IRI and a typed value differ in where head and rest lie.
     let n = names::head_length(kind, first);

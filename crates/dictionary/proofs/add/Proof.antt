@@ -7,7 +7,7 @@ use Rattle.layout.specs.Header.{headerOf}
 use Rattle.refusals.proofs.Told.{told-legal, told-illegal}
 use Rattle.model.specs.Names.{entered}
 use Rattle.names.specs.Checks.{shapeRefusal}
-use Rattle.names.proofs.Checks.{shape-refused, shape-kind, shape-size}
+use Rattle.names.proofs.Checks.{shape-refused, shape-kind}
 use Rattle.enter.specs.Added.{Lent}
 use Rattle.dictionary.proofs.Headers.{header, in-range}
 use Rattle.dictionary.proofs.Adds.{add-unopened, add-illegal, add-judged}
@@ -83,7 +83,7 @@ enum-told-2 : tie.Need-enum-told-2
 enum-told-2 c = search needs
 
 add-name-requires : tie.Need-add-name-requires
-add-name-requires c κs = (lent (c .before .before), shape-size _ _ (shaped (c .before .before)))
+add-name-requires c κs = (lent (c .before .before), shaped (c .before .before))
 
 same-length-5 : tie.Need-same-length-5
 same-length-5 c = search needs

@@ -10,7 +10,7 @@ use Rattle.refusals.proofs.Told.{told-legal, told-illegal}
 use Rattle.model.specs.Names.{entered}
 use Rattle.model.specs.Steps.{checks}
 use Rattle.names.specs.Checks.{shapeRefusal}
-use Rattle.names.proofs.Checks.{shape-refused, text-decides, shape-kind, shape-size}
+use Rattle.names.proofs.Checks.{shape-refused, text-decides, shape-kind}
 use Rattle.search.specs.declared.Search.the-variants.{Found}
 use Rattle.search.specs.Found.{Lent, FindsName}
 use Rattle.dictionary.proofs.Headers.{header, in-range}
@@ -64,7 +64,7 @@ located c =
     let o = c .before .before .before .before .before .before .before .before .before .before in
     let a = o .before .before .before .before .before .before .before .args in
     subst (FindsName (o .s .given .0 .0) (λ b. b ≡ entered (a .kind) (a .first .now) (a .second .now)) (a .pages .now) (a .lists .now)) (c .found .given .1)
-    (c .before .before .before .before .before .find-name .ensures)
+    (c .before .before .before .before .before .find-name .ensures .0)
 
 check-header-requires : tie.Need-check-header-requires
 check-header-requires c κs = search needs
@@ -97,7 +97,7 @@ enum-told-2 : tie.Need-enum-told-2
 enum-told-2 c = search needs
 
 find-name-requires : tie.Need-find-name-requires
-find-name-requires c κs = (lent c, shape-size _ _ (shaped c))
+find-name-requires c κs = (lent c, shaped c)
 
 check-text-requires : tie.Need-check-text-requires
 check-text-requires c κs = search needs
@@ -163,7 +163,7 @@ returns-6 c =
     let a = o .before .before .before .before .before .before .before .args in
     let s = o .s .given .0 .0 in
     find-none (a .pages .now) (a .lists .now) s (opened o) (entered (a .kind) (a .first .now) (a .second .now)) (legal t)
-    (subst (FindsName s (λ b. b ≡ entered (a .kind) (a .first .now) (a .second .now)) (a .pages .now) (a .lists .now)) (c .enum-told5 .given .1) (c .before .before .before .before .before .find-name .ensures))
+    (subst (FindsName s (λ b. b ≡ entered (a .kind) (a .first .now) (a .second .now)) (a .pages .now) (a .lists .now)) (c .enum-told5 .given .1) (c .before .before .before .before .before .find-name .ensures .0))
 
 returns-7 : tie.Need-returns-7
 returns-7 c =
@@ -172,7 +172,7 @@ returns-7 c =
     let a = o .before .before .before .before .before .before .before .args in
     let s = o .s .given .0 .0 in
     find-bad (a .pages .now) (a .lists .now) s (opened o) (entered (a .kind) (a .first .now) (a .second .now)) (legal t)
-    (subst (FindsName s (λ b. b ≡ entered (a .kind) (a .first .now) (a .second .now)) (a .pages .now) (a .lists .now)) (c .enum-told6 .given .1) (c .before .before .before .before .before .find-name .ensures))
+    (subst (FindsName s (λ b. b ≡ entered (a .kind) (a .first .now) (a .second .now)) (a .pages .now) (a .lists .now)) (c .enum-told6 .given .1) (c .before .before .before .before .before .find-name .ensures .0))
 
 pub find-spec : {M : Type 1} → statement M
 find-spec =

@@ -47,7 +47,7 @@ bytes-to-id-requires c κs =
     search needs
 
 check-text-requires : tie.Need-check-text-requires
-check-text-requires c κs = search needs
+check-text-requires c κs = start c .pre .1 .1 .1
 
 enum-known-why : tie.Need-enum-known-why
 enum-known-why c = search needs
@@ -81,7 +81,7 @@ add-entry-requires c κs =
     let p = c .before .before .before in
     let f = p .before .before .before .before .before in
     let z = start f in
-    (z .pre .0, (searched f _ (p .found2 .given .1), z .pre .1))
+    (z .pre .0, (searched f _ (p .found2 .given .1), (z .pre .1 .0, z .pre .1 .1 .0)))
 
 enum-told-2 : tie.Need-enum-told-2
 enum-told-2 c = search needs

@@ -1,5 +1,5 @@
 -- The head's number, written as a frequent id, is the front of the key. Assumes nothing.
-use Prim.Native.Nat.{_≤_, _<_}
+use Prim.Native.Nat.{ℕ, _≤_, _<_}
 use mathlib.Core.Path.{_≡_, sym, subst}
 use mathlib.Core.List.{[], _∷_, _++_}
 use native.Mathlib.Omega.{arith}
@@ -17,6 +17,7 @@ use Rattle.enter.specs.Answers.{addedBy}
 use Rattle.enter.specs.Added.{Judged, HasKey}
 use Rattle.search.proofs.Leads.{raw-hash, lead-short, lead-length, never-refused, lead-key}
 use borrow.Author.Needs.{needs}
+use borrow.Author.Tests.{ltb-true}
 use Rattle.enter_pair.proofs.add_behind.Statement.{statement}
 use Rattle.enter_pair.proofs.add_behind.Tie as tie
 
@@ -25,7 +26,7 @@ abbrev zeros : Bytes
 zeros = 0 ∷ 0 ∷ 0 ∷ 0 ∷ []
 
 small : (z : tie.Start) → z .args .f < 1073741824
-small z = omega (arith, z .pre .1, z .pre .0 .ranged .e .1)
+small z = omega (arith, z .pre .0 .1, z .pre .0 .0 .ranged .e .1)
 
 -- The length m of its frequent id.
 abbrev start : tie.After-m → tie.Start
@@ -53,16 +54,16 @@ key-short : (c : tie.After-m) →
 unfolding nameLimit
 key-short c =
     let z = start c in
-    subst (λ x. length x ≤ 8192) (sym (key-at c)) (omega (arith, length-append (fid (z .args .f)) (z .args .rest .now), lead-short (z .args .f), z .pre .2))
+    subst (λ x. length x ≤ 8192) (sym (key-at c)) (omega (arith, length-append (fid (z .args .f)) (z .args .rest .now), lead-short (z .args .f), z .pre .0 .2))
 
 -- Its hash.
-abbrev led : tie.After-fnv-from → tie.After-m
+abbrev led : tie.After-scan → tie.After-m
 led c = c .before .before .before .before
 
-hashed : (c : tie.After-fnv-from) →
+hashed : (c : tie.After-scan) →
     let m = led c in
-    c .fnv-from .result ≡ fnvOf (keyOf Raw (take (m .m .given .0 .0) (m .before .before .before .write-frequent-id .last .1 .0)) (start m .args .rest .now))
-hashed c = raw-hash _ _ _ _ (c .before .fnv .ensures) (c .fnv-from .ensures)
+    c .scan .result .h ≡ fnvOf (keyOf Raw (take (m .m .given .0 .0) (m .before .before .before .write-frequent-id .last .1 .0)) (start m .args .rest .now))
+hashed c = raw-hash _ _ _ _ (c .before .fnv .ensures) (c .scan .ensures .0)
 
 slice-aggregate-write-frequent-id : tie.Need-slice-aggregate-write-frequent-id
 slice-aggregate-write-frequent-id c = search needs
@@ -91,21 +92,24 @@ slice-aggregate-fnv c = sym (length-take-le _ _ (lead-in (c .before .before)))
 fnv-requires : tie.Need-fnv-requires
 fnv-requires c κs = search needs
 
-fnv-from-requires : tie.Need-fnv-from-requires
-fnv-from-requires c κs = search needs
+scan-requires : tie.Need-scan-requires
+scan-requires c κs = search needs
 
 array-share-prefix-lead-2 : tie.Need-array-share-prefix-lead-2
-array-share-prefix-lead-2 c = lead-in (led c)
+array-share-prefix-lead-2 c = lead-in (led (c .before))
 
 slice-aggregate-front : tie.Need-slice-aggregate-front
-slice-aggregate-front c = sym (length-take-le _ _ (lead-in (led (c .before))))
+slice-aggregate-front c = sym (length-take-le _ _ (lead-in (led (c .before .before))))
 
 add-str-requires : tie.Need-add-str-requires
 add-str-requires c κs =
-    let h = c .before .before .before in
-    let m = led h in
-    let L = start m .pre .0 in
-    (record { ranged = L .ranged; pages-fit = L .pages-fit; lists-fit = L .lists-fit; kinded = L .kinded }, (key-short m, hashed h))
+    let y = c .before .before .before .before in
+    let m = led y in
+    let z = start m in
+    let L = z .pre .0 .0 in (
+      record { ranged = L .ranged; pages-fit = L .pages-fit; lists-fit = L .lists-fit; kinded = L .kinded },
+      (key-short m, (hashed y, λ p. z .pre .1 (subst (λ (n : ℕ). n < 128) (y .scan .ensures .1) (ltb-true _ _ p)))),
+    )
 
 same-length : tie.Need-same-length
 same-length c = search needs
@@ -116,7 +120,7 @@ same-length-2 c = search needs
 returns-2 : tie.Need-returns-2
 returns-2 c =
     let e = c .before .before .before .before in
-    let m = led (e .before .before .before .before) in
+    let m = led (e .before .before .before .before .before) in
     let a = start m .args in
     subst
     (λ x. Judged (textRefusal (entered (a .k) (a .first .now) (a .second .now))) (a .s) (HasKey (a .k) x) (a .pages .now) (a .lists .now) (addedBy (e .add-str .result)) (e .add-str .last .0) (e .add-str .last .1 .0))
@@ -134,7 +138,7 @@ add-behind-spec =
     array-share-prefix-lead
     slice-aggregate-fnv
     fnv-requires
-    fnv-from-requires
+    scan-requires
     array-share-prefix-lead-2
     slice-aggregate-front
     add-str-requires

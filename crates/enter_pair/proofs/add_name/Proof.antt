@@ -1,5 +1,5 @@
 -- Each kind's own add serves its legal names. Assumes nothing.
-use Prim.Native.Nat.{ℕ, zero, suc, _+_, _≤_}
+use Prim.Native.Nat.{ℕ, zero, suc, _+_, _≤_, _<_}
 use mathlib.Core.Path.{_≡_, refl, sym, subst, _∙_}
 use mathlib.Core.Bool.{true}
 use mathlib.Core.List.{[]}
@@ -18,12 +18,16 @@ use Rattle.model.specs.State.{State}
 use Rattle.model.specs.Answers.{AddAnswer}
 use Rattle.names.specs.Checks.{textRefusal}
 use Rattle.names.specs.Given.{restBehind}
+use Rattle.utf8.specs.Text.{isText}
+use Rattle.names.proofs.Checks.{shape-size, shape-second}
 use Rattle.names.proofs.Rows.{paired}
 use Rattle.names.proofs.Pairs.{is-pair}
-use Rattle.search.proofs.Leads.{whole-hash}
+use Rattle.search.proofs.Leads.{whole-hash, scanned-hash}
+use Rattle.search.proofs.Plain.{plain-text, pair-plain}
 use Rattle.enter.specs.Added.{Lent, Judged, HasKey}
 use Rattle.enter_pair.proofs.Means.{judged-names, by-rest}
 use borrow.Author.Needs.{needs}
+use borrow.Author.Tests.{ltb-true}
 use Rattle.enter_pair.proofs.add_name.Statement.{statement}
 use Rattle.enter_pair.proofs.add_name.Tie as tie
 
@@ -65,16 +69,28 @@ has-heads c =
 slice-aggregate-none : tie.Need-slice-aggregate-none
 slice-aggregate-none c = search needs
 
-fnv-requires : tie.Need-fnv-requires
-fnv-requires c κs = search needs
+scan-requires : tie.Need-scan-requires
+scan-requires c κs = search needs
 
 add-str-requires : tie.Need-add-str-requires
+unfolding isText
 add-str-requires c κs =
-    let t = c .before .before .before .before in
+    let t = c .before .before .before .before .before in
     let z = t .before .before .before .before .before in
     let a = z .args in
-    let h = c .before .before .fnv in
-    (other-kind _ _ _ _ _ (z .pre .0) (t .if1 .taken), (plain-short (a .first .now) (a .second .now) (z .pre .1), whole-hash (a .first .now) (h .result) (h .ensures)))
+    let x = c .before .before .before .scan in (
+      other-kind _ _ _ _ _ (z .pre .0) (t .if1 .taken),
+      (
+        plain-short (a .first .now) (a .second .now) (shape-size (a .s) (entered (a .kind) (a .first .now) (a .second .now)) (z .pre .1)),
+        (
+          whole-hash (a .first .now) (x .result .h) (scanned-hash _ _ (x .ensures .0)),
+          λ p. (
+            plain-text (a .first .now) 0 (subst (λ (n : ℕ). n < 128) (x .ensures .1) (ltb-true _ _ p)),
+            rw (shape-second (a .s) (entered (a .kind) (a .first .now) (a .second .now)) (z .pre .1) (omega (arith, t .if1 .taken))),
+          ),
+        ),
+      ),
+    )
 
 same-length : tie.Need-same-length
 same-length c = search needs
@@ -85,7 +101,7 @@ same-length-2 c = search needs
 returns : tie.Need-returns
 returns c =
     let e = c .before .before .before .before in
-    let t = e .before .before .before .before .before in
+    let t = e .before .before .before .before .before .before in
     let z = t .before .before .before .before .before in
     let a = z .args in
     judged-names (a .s) (a .pages .now) (a .lists .now) _ _ _ _ _ _
@@ -96,7 +112,7 @@ add-tagged-requires : tie.Need-add-tagged-requires
 add-tagged-requires c κs =
     let t = c .before .before in
     let z = t .before .before .before .before .before .before in
-    (other-kind _ _ _ _ _ (z .pre .0) (t .if2 .taken), z .pre .1)
+    (other-kind _ _ _ _ _ (z .pre .0) (t .if2 .taken), shape-size _ _ (z .pre .1))
 
 same-length-3 : tie.Need-same-length-3
 same-length-3 c = search needs
@@ -129,11 +145,15 @@ add-pair-requires c κs =
     let h = b .before in
     let z = h .before .before .before .before .before .before .before in
     let a = z .args in
-    let n = h .head-length .result in (
-      other-kind _ _ _ _ _ (z .pre .0) refl,
-      has-heads (h .before),
-      subst (λ (y : Bytes). length (take n (a .first .now)) + length y ≤ nameLimit) (sym (b .rest-behind .ensures))
-          (parts-short (a .kind) (a .first .now) (a .second .now) n (h .head-length .ensures .1) (z .pre .1)),
+    let n = h .head-length .result in
+    let N = entered (a .kind) (a .first .now) (a .second .now) in (
+      (
+        other-kind _ _ _ _ _ (z .pre .0) refl,
+        has-heads (h .before),
+        subst (λ (y : Bytes). length (take n (a .first .now)) + length y ≤ nameLimit) (sym (b .rest-behind .ensures))
+            (parts-short (a .kind) (a .first .now) (a .second .now) n (h .head-length .ensures .1) (shape-size (a .s) N (z .pre .1))),
+      ),
+      pair-plain (a .kind) (a .first .now) (a .second .now) _ n (h .head-length .ensures .0) (h .head-length .ensures .1) (b .rest-behind .ensures) (shape-second (a .s) N (z .pre .1)),
     )
 
 same-length-5 : tie.Need-same-length-5
@@ -158,7 +178,7 @@ add-name-spec =
     tie.close
     (tie.spec
     slice-aggregate-none
-    fnv-requires
+    scan-requires
     add-str-requires
     same-length
     same-length-2

@@ -1,5 +1,6 @@
 -- The key of a tagged string is its packed form. Assumes nothing.
 use mathlib.Core.Path.{_≡_, refl}
+use mathlib.Core.Bool.{false≢true}
 use native.Mathlib.Omega.{arith}
 use Rattle.slices.specs.Bytes.{Bytes}
 use Rattle.limits.specs.Limits.{nameLimit}
@@ -29,7 +30,7 @@ add-str-requires c κs =
     let a = z .args in
     let L = z .pre .0 in (
       record { ranged = L .ranged; pages-fit = L .pages-fit; lists-fit = L .lists-fit; kinded = L .kinded },
-      (omega (arith, length-key Tag (a .tag .now) (a .text .now), length-bytes Tag (a .tag .now), z .pre .1), c .before .before .hash .ensures),
+      (omega (arith, length-key Tag (a .tag .now) (a .text .now), length-bytes Tag (a .tag .now), z .pre .1), (c .before .before .hash .ensures, λ p. absurd (false≢true p))),
     )
 
 same-length : tie.Need-same-length

@@ -19,81 +19,62 @@ use Rattle.names.proofs.check_text.Tie as tie
 
 -- The refusal that each test comes to.
 module _ (a : Name) where
-  first-not : isText (a .first) ≡ false → textRefusal a ≡ some NotText
+  not-text : (isText (a .first) && isText (a .second)) ≡ false → textRefusal a ≡ some NotText
   unfolding textRefusal
-  first-not f = rw f
+  not-text e = rw e
 
-  second-not : isText (a .first) ≡ true → isText (a .second) ≡ false → textRefusal a ≡ some NotText
-  unfolding textRefusal
-  second-not f g = rw (f, g)
-
-  module _ (f : isText (a .first) ≡ true) (g : isText (a .second) ≡ true) where
+  module _ (e : (isText (a .first) && isText (a .second)) ≡ true) where
     no-tag : a .kind ≡ 2 → length (a .second) ≡ 0 → textRefusal a ≡ some NoTag
     unfolding textRefusal
     no-tag q n =
         let u : row (a .kind) .needsTag ≡ true = needs-tag (a .kind) ∙ eq-eqb _ _ q in
         let v : isEmpty (a .second) ≡ true = sym (empty-by-length (a .second)) ∙ eq-eqb _ _ n in
-        rw (f, g, u, v)
+        rw (e, u, v)
 
     tag-here : (length (a .second) ≡ 0 → ⊥) → textRefusal a ≡ none
     unfolding textRefusal
     tag-here n =
         let v : isEmpty (a .second) ≡ false = sym (empty-by-length (a .second)) ∙ ne-eqb _ _ n in
         let w : (row (a .kind) .needsTag && isEmpty (a .second)) ≡ false = rw v (and-false (row (a .kind) .needsTag)) in
-        rw (f, g, w)
+        rw (e, w)
 
     tag-free : (a .kind ≡ 2 → ⊥) → textRefusal a ≡ none
     unfolding textRefusal
     tag-free q =
         let u : row (a .kind) .needsTag ≡ false = needs-tag (a .kind) ∙ ne-eqb _ _ q in
-        rw (f, g, u)
+        rw (e, u)
 
--- What is known behind each test.
-first-is : (c : tie.Else1) → isText (c .before .before .before .before .args .first .now) ≡ true
-first-is c = sym (c .before .is-text .ensures) ∙ not-false _ (c .if1 .left)
+-- What is known behind the first test.
+both : (c : tie.Else1) → let z = c .before .before .before .before .args in (isText (z .first .now) && isText (z .second .now)) ≡ true
+both c = sym (c .before .are-text .ensures) ∙ not-false _ (c .if1 .left)
 
-second-is : (c : tie.Else2) → isText (c .before .before .before .before .before .before .args .second .now) ≡ true
-second-is c = sym (c .before .is-text2 .ensures) ∙ not-false _ (c .if2 .left)
-
-is-text-requires : tie.Need-is-text-requires
-is-text-requires c κs = search needs
+are-text-requires : tie.Need-are-text-requires
+are-text-requires c κs = search needs
 
 returns : tie.Need-returns
 returns c =
     let z = c .before .before .before .before .args in
     let a = entered (z .kind) (z .first .now) (z .second .now) in
-    ap checkedBy (sym (first-not a (sym (c .before .is-text .ensures) ∙ not-true _ (c .if1 .taken))))
-
-is-text-requires-2 : tie.Need-is-text-requires-2
-is-text-requires-2 c κs = search needs
+    ap checkedBy (sym (not-text a (sym (c .before .are-text .ensures) ∙ not-true _ (c .if1 .taken))))
 
 returns-2 : tie.Need-returns-2
 returns-2 c =
     let f = c .before .before in
     let z = f .before .before .before .before .args in
     let a = entered (z .kind) (z .first .now) (z .second .now) in
-    ap checkedBy (sym (second-not a (first-is f) (sym (c .before .is-text2 .ensures) ∙ not-true _ (c .if2 .taken))))
+    ap checkedBy (sym (no-tag a (both f) (c .before .if2 .taken) (eqb-true _ _ (c .if3 .taken))))
 
 returns-3 : tie.Need-returns-3
 returns-3 c =
-    let g = c .before .before in
-    let f = g .before .before in
-    let z = f .before .before .before .before .args in
-    let a = entered (z .kind) (z .first .now) (z .second .now) in
-    ap checkedBy (sym (no-tag a (first-is f) (second-is g) (c .before .if3 .taken) (eqb-true _ _ (c .if4 .taken))))
-
-returns-4 : tie.Need-returns-4
-returns-4 c =
-    let g = c .before in
-    let f = g .before .before in
+    let f = c .before in
     let z = f .before .before .before .before .args in
     let a = entered (z .kind) (z .first .now) (z .second .now) in
     ap checkedBy
     (sym
     (⊎-elim
-    (λ x. tag-here a (first-is f) (second-is g) (eqb-false _ _ (x .1 .left)))
-    (λ x. tag-free a (first-is f) (second-is g) (x .left))
-    (c .if3 .came)))
+    (λ x. tag-here a (both f) (eqb-false _ _ (x .1 .left)))
+    (λ x. tag-free a (both f) (x .left))
+    (c .if2 .came)))
 
 pub check-text-spec : {M : Type 1} → statement M
-check-text-spec = tie.close (tie.spec is-text-requires returns is-text-requires-2 returns-2 returns-3 returns-4)
+check-text-spec = tie.close (tie.spec are-text-requires returns returns-2 returns-3)

@@ -14,18 +14,15 @@ slice-aggregate-none c = search needs
 head-dictionary-requires : tie.Need-head-dictionary-requires
 head-dictionary-requires c κs = search needs
 
-fnv-requires : tie.Need-fnv-requires
-fnv-requires c κs = search needs
-
 bytes-to-id-requires : tie.Need-bytes-to-id-requires
 bytes-to-id-requires c κs =
-    let e = whole-hash _ (c .fnv .result) (c .fnv .ensures) in
+    let z = c .before .before .before .before .before in
+    let e = whole-hash _ (z .args .h) (z .pre .2) in
     let l = raw-short [] (omega arith) in
     search needs
 
 returns : tie.Need-returns
-returns c = at-raw _ _ _ _ _ _ _ _ (c .before .before .head-dictionary .ensures .0) refl (c .bytes-to-id .ensures)
+returns c = at-raw _ _ _ _ _ _ _ _ (c .before .head-dictionary .ensures .0) refl (c .bytes-to-id .ensures)
 
 pub find-head-spec : {M : Type 1} → statement M
-find-head-spec =
-    tie.close (tie.spec slice-aggregate-none head-dictionary-requires fnv-requires bytes-to-id-requires returns)
+find-head-spec = tie.close (tie.spec slice-aggregate-none head-dictionary-requires bytes-to-id-requires returns)

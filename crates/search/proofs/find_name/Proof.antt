@@ -1,20 +1,24 @@
 -- Each kind's own search finds its legal names. Assumes nothing.
-use Prim.Native.Nat.{ℕ}
-use mathlib.Core.Path.{_≡_, refl, sym, _∙_}
-use mathlib.Core.Bool.{true}
+use Prim.Native.Nat.{ℕ, _<_}
+use mathlib.Core.Path.{_≡_, refl, sym, subst, _∙_}
+use mathlib.Core.Bool.{true, false≢true}
 use mathlib.Core.List.{[]}
 use native.Mathlib.Omega.{arith}
 use borrow.Author.Needs.{needs}
+use borrow.Author.Tests.{ltb-true}
 use lib.Seq.{length-take-le}
 use Rattle.slices.specs.Bytes.{Bytes}
 use Rattle.parts.specs.declared.Mode.the-variants.{Raw}
 use Rattle.parts.specs.Parts.{bytesOf}
 use Rattle.bytes_index.specs.Search.{keyOf}
+use Rattle.utf8.specs.Text.{isText}
 use Rattle.model.specs.Names.{Name, entered}
 use Rattle.model.specs.Kinds.{row}
+use Rattle.names.proofs.Checks.{shape-size, shape-second}
 use Rattle.names.proofs.Rows.{paired}
 use Rattle.names.proofs.Pairs.{is-pair}
-use Rattle.search.proofs.Leads.{whole-hash, raw-short}
+use Rattle.search.proofs.Leads.{whole-hash, scanned-hash, raw-short}
+use Rattle.search.proofs.Plain.{plain-text, pair-plain}
 use Rattle.search.proofs.Finds.{same-names, by-key}
 use Rattle.search.proofs.find_name.Statement.{statement}
 use Rattle.search.proofs.find_name.Tie as tie
@@ -37,32 +41,43 @@ has-heads c =
 slice-aggregate-none : tie.Need-slice-aggregate-none
 slice-aggregate-none c = search needs
 
-fnv-requires : tie.Need-fnv-requires
-fnv-requires c κs = search needs
+scan-requires : tie.Need-scan-requires
+scan-requires c κs = search needs
 
 find-key-requires : tie.Need-find-key-requires
 find-key-requires c κs =
-    let e = whole-hash _ (c .fnv .result) (c .fnv .ensures) in
+    let e = whole-hash _ (c .scan .result .h) (scanned-hash _ _ (c .scan .ensures .0)) in
     let l = raw-short [] (omega arith) in
     search needs
 
 returns : tie.Need-returns
+unfolding isText
 returns c =
-    let t = c .before .before .before in
-    let a = t .before .before .before .before .before .args in
-    by-key (a .s) (a .pages .now) (a .lists .now) _ 1 _ (c .find-key .result) refl
-    (λ x e m. is-plain (a .kind) (a .first .now) (a .second .now) x m (t .if1 .taken))
-    (c .find-key .ensures)
+    let k = c .before in
+    let x = k .before in
+    let t = x .before .before in
+    let z = t .before .before .before .before .before in
+    let a = z .args in (
+      by-key (a .s) (a .pages .now) (a .lists .now) _ 1 _ (k .find-key .result) refl
+          (λ x e m. is-plain (a .kind) (a .first .now) (a .second .now) x m (t .if1 .taken))
+          (k .find-key .ensures),
+      λ p. (
+        plain-text (a .first .now) 0 (subst (λ (n : ℕ). n < 128) (x .scan .ensures .1) (ltb-true _ _ p)),
+        rw (shape-second (a .s) (entered (a .kind) (a .first .now) (a .second .now)) (z .pre .1) (omega (arith, t .if1 .taken))),
+      ),
+    )
 
 find-tagged-requires : tie.Need-find-tagged-requires
-find-tagged-requires c κs = search needs
+find-tagged-requires c κs = let l = shape-size _ _ (c .before .before .before .before .before .before .pre .1) in search needs
 
 returns-2 : tie.Need-returns-2
 returns-2 c =
-    let a = c .before .before .before .before .before .before .before .args in
-    same-names (a .s) (a .pages .now) (a .lists .now) _ _ (c .find-tagged .result)
-    (λ x e m. is-tagged (a .kind) (a .first .now) (a .second .now) x m (c .before .if2 .taken))
-    (c .find-tagged .ensures)
+    let a = c .before .before .before .before .before .before .before .args in (
+      same-names (a .s) (a .pages .now) (a .lists .now) _ _ (c .find-tagged .result)
+          (λ x e m. is-tagged (a .kind) (a .first .now) (a .second .now) x m (c .before .if2 .taken))
+          (c .find-tagged .ensures),
+      λ p. absurd (false≢true p),
+    )
 
 head-length-requires : tie.Need-head-length-requires
 head-length-requires c κs = search needs
@@ -81,17 +96,22 @@ returns-3 c =
     let r = c .before .before in
     let n = r .before in
     let z = n .before .before .before .before .before .before .before in
-    let a = z .args in
-    same-names (a .s) (a .pages .now) (a .lists .now) _ _ (c .find-pair .result)
-    (λ x e m. is-pair (a .kind) (a .first .now) (a .second .now) _ (n .head-length .result) (z .pre .0 .kinded) (has-heads (n .before)) (n .head-length .ensures .0) (r .rest-behind .ensures) x m)
-    (c .find-pair .ensures)
+    let a = z .args in (
+      same-names (a .s) (a .pages .now) (a .lists .now) _ _ (c .find-pair .result .found)
+          (λ x e m. is-pair (a .kind) (a .first .now) (a .second .now) _ (n .head-length .result) (z .pre .0 .kinded) (has-heads (n .before)) (n .head-length .ensures .0) (r .rest-behind .ensures) x m)
+          (c .find-pair .ensures .0),
+      λ p.
+          pair-plain (a .kind) (a .first .now) (a .second .now) _ (n .head-length .result) (n .head-length .ensures .0) (n .head-length .ensures .1) (r .rest-behind .ensures)
+          (shape-second (a .s) (entered (a .kind) (a .first .now) (a .second .now)) (z .pre .1))
+          (c .find-pair .ensures .1 p),
+    )
 
 pub find-name-spec : {M : Type 1} → statement M
 find-name-spec =
     tie.close
     (tie.spec
     slice-aggregate-none
-    fnv-requires
+    scan-requires
     find-key-requires
     returns
     find-tagged-requires
