@@ -10,13 +10,11 @@ use Rattle.layout.specs.declared.Sizes.{Sizes}
 use Rattle.layout.specs.Sizes.{InRange, dictionaries, pageSize, listBytes}
 use Rattle.layout.specs.Fields.{untakenAt, currentAt, takenAt, pageAt, pageWord}
 use Rattle.layout.proofs.Ranges.{page-size}
-use Rattle.bytes_buffer.specs.declared.Spot.the-variants.{Current, Next}
 use Rattle.bytes_buffer.specs.Pages.{Space, fits, grownAt, allPages}
-use Rattle.bytes_buffer.specs.Spots.{currentOf, spotIn, withUsed, extended, pagesOf, tookPage}
+use Rattle.bytes_buffer.specs.Spots.{currentOf, withUsed, extended, pagesOf, tookPage}
 use Rattle.bytes_buffer.specs.Tables.{PagesAt}
 use Rattle.bytes_buffer.proofs.Pages.{size-is, fits-facts, taken-most}
 use Rattle.bytes_buffer.proofs.Tables.{current-below}
-use Rattle.bytes_buffer.proofs.Plans.{plan-says}
 use Rattle.bytes_buffer.proofs.Words.{extended-same, extended-other, took-other, took-untaken, took-current, took-count, took-page}
 use Rattle.bytes_buffer.proofs.Steps.{Kept, extend-kept, extend-keeps, take-kept, take-keeps}
 
@@ -85,15 +83,3 @@ module _ (s : Sizes) (sp : ℕ → Space) (lists : Bytes) (d n : ℕ) (r : InRan
 
     pub took-kept : (i : ℕ) → i < allPages sp → Kept (wordAt lists) (wordAt (tookPage lists d (allPages sp) n)) i
     took-kept = take-kept s sp (wordAt lists) _ d n r H l e b left took-at took-cnt took-cur took-low (took-other lists d (allPages sp) n)
-
-  -- ---- the same by the plan's answer
-
-  pub current-holds : (u g o : ℕ) → spotIn s (wordAt lists) d u n ≡ Current g o → PagesAt s (grownAt s sp d n) (wordAt (extended lists g (o + n)))
-  current-holds u g o e =
-      let p = plan-says s sp (wordAt lists) d u n H l (Current g o) e in
-      rw (p .1, p .2) (extended-holds (p .0))
-
-  pub next-holds : (g : ℕ) → spotIn s (wordAt lists) d (allPages sp) n ≡ Next g → n ≤ pageSize s → PagesAt s (grownAt s sp d n) (wordAt (tookPage lists d g n))
-  next-holds g e b =
-      let p = plan-says s sp (wordAt lists) d (allPages sp) n H l (Next g) e in
-      rw (p .1) (took-holds (p .0) b (p .2))

@@ -98,14 +98,6 @@ module _ (s : Sizes) (sp sp′ : ℕ → Space) (W : ℕ → ℕ) (d u n : ℕ) 
       let p = plan-says s sp W d u n H l NoPage e in
       omega (arith, p .1, pages-unfit s sp′ d n l (ap (λ (x : Space). fits (s .p) x n) q ∙ p .0))
 
-  pub over-none : u ≤ s .n → s .n < allPages (grownAt s sp′ d n) → spotIn s W d u n ≡ NoPage
-  over-none b h = go (split (fits (s .p) (sp′ d) n))
-    where
-      go : Split (fits (s .p) (sp′ d) n) → spotIn s W d u n ≡ NoPage
-      go (inl e) = absurd (omega (arith, pages-fit s sp′ d n l e))
-      go (inr e) =
-          plan-unfit s sp W d u n H l (ap (λ (x : Space). fits (s .p) x n) (sym q) ∙ e) ∙ next-none s u (omega (arith, pages-unfit s sp′ d n l e))
-
 -- A dictionary whose space and current page stay keeps its spot: an add plans both its entries before it writes the first.
 pub spot-kept : (s : Sizes) (sp sp′ : ℕ → Space) (W W′ : ℕ → ℕ) (d u n : ℕ) → PagesAt s sp W → PagesAt s sp′ W′ → d < dictionaries → sp′ d ≡ sp d
     → W′ (currentAt d) ≡ W (currentAt d) → spotIn s W′ d u n ≡ spotIn s W d u n

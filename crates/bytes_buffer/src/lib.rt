@@ -12,6 +12,7 @@ use layout::OWNERS;
 use layout::PAGE_NUMBERS;
 use layout::PAGES;
 use layout::POSITION;
+use layout::STRIDE;
 use layout::Sizes;
 use layout::TAKEN;
 use layout::UNTAKEN;
@@ -60,7 +61,7 @@ pub fn plan(lists: &[u8], s: Sizes, d: usize, untaken: usize, len: usize) -> Spo
     requires { ⌜ (d < dictionaries) × (len ≤ pageSize s) ⌝ }
     ensures { λ r. ⌜ (r ≡ spotIn s (wordAt (now (lists .entry))) d untaken len) × InPages s untaken len r ⌝ }
 {
-    let current = words::word_at(lists, CURRENT + 4 * d);
+    let current = words::word_at(lists, CURRENT + STRIDE * d);
     if current == 0 {
         return next(s, untaken);
     }
@@ -112,13 +113,13 @@ pub fn take_page(lists: &mut [u8], d: usize, page: usize, used: usize)
     ensures { λ _. ⌜ now (lists .exit) ≡ tookPage (now (lists .entry)) d page used ⌝ }
 {
     // A dictionary has fewer than 1,024 pages where one is left, so the remainder is the number itself.
-    let taken = words::word_at(lists, TAKEN + 4 * d) % PAGE_NUMBERS;
+    let taken = words::word_at(lists, TAKEN + STRIDE * d) % PAGE_NUMBERS;
     words::put_word(
         lists,
         PAGES + page,
         d + 1 + OWNERS * used + POSITION * taken,
     );
-    words::put_word(lists, TAKEN + 4 * d, taken + 1);
-    words::put_word(lists, CURRENT + 4 * d, page + 1);
+    words::put_word(lists, TAKEN + STRIDE * d, taken + 1);
+    words::put_word(lists, CURRENT + STRIDE * d, page + 1);
     words::put_word(lists, UNTAKEN, page + 1);
 }

@@ -1,9 +1,8 @@
 -- What a lookup answers, from the count and the entry's word. Assumes nothing.
 use Prim.Native.Nat.{ℕ, _≤_, _<_}
 use mathlib.Core.Path.{_≡_, refl, sym, ap, subst, _∙_}
-use mathlib.Core.Option.{Option, none, some}
+use mathlib.Core.Option.{Option, some}
 use native.Mathlib.Omega.{arith}
-use native.Mathlib.Decide.{decLt}
 use lib.ListN.{getD}
 use Rattle.slices.specs.Bytes.{Bytes}
 use Rattle.words.specs.Words.{wordAt}
@@ -77,11 +76,3 @@ pub store-counted : (s : Sizes) (st : Store) (pages lists : Bytes) (d : ℕ) →
 store-counted s st pages lists d l S =
     let D = S .dict d l in
     ap (countIn s) (D .counted) ∙ sym (count-is s (st .count d) (st .count d) refl (D .most))
-
--- An entry in use has a number below it.
-pub used-below : (s : Sizes) (st : Store) (pages lists : Bytes) (d i : ℕ) (key : Bytes) → d < dictionaries → StoreAt s st pages lists → st .entries d i ≡ some key → i < st .count d
-used-below s st pages lists d i key l S u = go (decLt i (st .count d))
-  where
-    go : Dec (i < st .count d) → i < st .count d
-    go (yes h) = h
-    go (no h) = let z : st .entries d i ≡ none = S .dict d l .past i (omega arith) in let q : _≡_ {A = ℕ} 0 1 = cc in absurd (omega arith)

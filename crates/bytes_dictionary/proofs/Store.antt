@@ -17,7 +17,6 @@ use Rattle.layout.specs.declared.Sizes.{Sizes}
 use Rattle.layout.specs.Sizes.{InRange, dictionaries, pageSize, pageBytes, listBytes}
 use Rattle.layout.specs.Fields.{untakenAt, placeAt}
 use Rattle.layout.proofs.Ranges.{page-size}
-use Rattle.layout.proofs.Opened.{opened-length}
 use Rattle.bytes_index.specs.Entries.{Entries, Misses}
 use Rattle.bytes_index.specs.Search.{Fits}
 use Rattle.bytes_index.proofs.Index.{place-fits}
@@ -34,12 +33,11 @@ use Rattle.bytes_buffer.proofs.Plans.{plan-fit, plan-unfit}
 use Rattle.bytes_buffer.proofs.Commits.{extended-holds, took-holds}
 use Rattle.bytes_dictionary.specs.Written.{entryWritten, pagesAfter, listsAfter, IsSpot}
 use Rattle.bytes_dictionary.specs.Store.{Store, inserted, DictAt, StoreAt}
-use Rattle.bytes_dictionary.specs.Trace.{Ready, Reached, opened, after}
+use Rattle.bytes_dictionary.specs.Ready.{Ready}
 use Rattle.bytes_dictionary.proofs.Updates.{upd-same, upd-other, upd-each, more-old}
 use Rattle.bytes_dictionary.proofs.Steps.{Step, length-written, written, tables-kept}
 use Rattle.bytes_dictionary.proofs.Rooms.{Placed, placed-current, placed-next, placed-same, beyond-extended, beyond-took, step-beyond}
 use Rattle.bytes_dictionary.proofs.Grow.{dict-other, dict-own}
-use Rattle.bytes_dictionary.proofs.Empty.{init-store}
 use Rattle.bytes_dictionary.proofs.Beside.{words-beside}
 use Rattle.bytes_dictionary.proofs.Header.{header-kept}
 
@@ -190,7 +188,7 @@ module _ (s : Sizes) (st : Store) (pages lists : Bytes) (d place stamp : ℕ) (k
           absurd
           (subst IsSpot (sym q ∙ plan-unfit s (st .space) W d (W untakenAt) (length key) (S .paged) (F .known) e ∙ ap (nextOf s) low ∙ next-none s (allPages (st .space)) (omega arith)) ok)
 
--- ---- every insert, and every run of inserts
+-- ---- every insert
 
 pub store-insert : (s : Sizes) (st : Store) (pages lists : Bytes) (d place : ℕ) (spot : Spot) (stamp : ℕ) (key : Bytes)
     → InRange s → pageBytes s ≤ length pages → listBytes s ≤ length lists → StoreAt s st pages lists → Ready s st pages lists d place spot stamp key
@@ -202,18 +200,6 @@ store-insert s st pages lists d place spot stamp key r f g S R =
     spot
     (R .planned)
     (R .spotted)
-
--- The memory that a run of inserts leaves stands for the store that they make.
-pub reached-holds : (s : Sizes) {st : Store} {pages lists : Bytes} → InRange s → Reached s st pages lists
-    → (pageBytes s ≤ length pages) × (listBytes s ≤ length lists) × StoreAt s st pages lists
-reached-holds s r (opened pages lists f g) =
-    (f, subst (λ (x : ℕ). listBytes s ≤ x) (sym (opened-length s lists)) g, init-store s pages lists r f g)
-reached-holds s r (after {st = st} {pages = pages} {lists = lists} t d place spot stamp key R) =
-    let h = reached-holds s r t in (
-      subst (λ (x : ℕ). pageBytes s ≤ x) (sym (length-pages s pages spot key)) (h .0),
-      subst (λ (x : ℕ). listBytes s ≤ x) (sym (length-lists s lists d (st .count d) place spot stamp key)) (h .1),
-      store-insert s st pages lists d place spot stamp key r (h .0) (h .1) (h .2) R,
-    )
 
 -- ---- numbers
 

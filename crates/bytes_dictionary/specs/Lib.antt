@@ -1,4 +1,4 @@
 pub mod Written
 pub mod Store
 pub mod Reading
-pub mod Trace
+pub mod Ready

@@ -5,6 +5,7 @@ use layout::COUNT;
 use layout::ENTRY_NUMBERS;
 use layout::LENGTH;
 use layout::PAGE_NUMBERS;
+use layout::STRIDE;
 use layout::Sizes;
 use parts::Mode;
 ghost use mathlib.Core.Path.{_≡_};
@@ -33,7 +34,7 @@ pub fn count(lists: &[u8], s: Sizes, d: usize) -> Counted
     requires { ⌜ InRange s × (listBytes s ≤ length (now lists)) × (d < dictionaries) ⌝ }
     ensures { λ r. ⌜ r ≡ countIn s (wordAt (now (lists .entry)) (countAt d)) ⌝ }
 {
-    let n = words::word_at(lists, COUNT + 4 * d);
+    let n = words::word_at(lists, COUNT + STRIDE * d);
     let e = s.e;
     if n <= e {
         return Counted::Entries(n);
@@ -97,7 +98,7 @@ fn write_entry(
     words::put_word(lists, base + n, pack(page, offset, len));
     words::put_word(lists, base + (e + n), stamp);
     words::put_quad(lists, 2 * (base + 2 * e) + place, place_word(n, h));
-    words::put_word(lists, COUNT + 4 * d, n + 1);
+    words::put_word(lists, COUNT + STRIDE * d, n + 1);
 }
 
 // What a fresh entry gets: its dictionary and its number there, the index place that names it, and its stamp; and its key's hash.

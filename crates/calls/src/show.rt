@@ -29,15 +29,11 @@ pub fn number(n: u64) {
     io::print_decimal(1, n);
 }
 
-fn wide(b: u8) -> u64 {
-    b as u64
-}
-
 // A byte that is not a printed character of ASCII, a quote or a '\' as \x and two digits.
 fn character(b: u8) {
     if b < 0x20 || b > 0x7E || b == b'"' || b == b'\\' {
         io::write_all(1, b"\\x");
-        io::print_hex(1, wide(b), 2);
+        io::print_hex(1, b as u64, 2);
     } else {
         io::write_all(1, &[b]);
     }
@@ -71,7 +67,7 @@ fn step(how: How, run: Run, b: u8) -> Run {
         }
         How::Hex => {
             io::write_all(1, b" ");
-            io::print_hex(1, wide(b), 2);
+            io::print_hex(1, b as u64, 2);
             run
         }
         How::Runs => longer(run, b),

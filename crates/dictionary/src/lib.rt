@@ -136,7 +136,7 @@ pub fn read(pages: &[u8], lists: &[u8], number: GlobalId, buffer: &mut [u8]) -> 
             if buffer.len() < first + second {
                 return ReadResult::Refused(Refusal::ShortBuffer);
             }
-            locate::copy_name(pages, s, x, buffer);
+            locate::copy_name(pages, x, buffer);
             ReadResult::Name {
                 kind,
                 first,

@@ -6,12 +6,6 @@ ghost use Rattle.fnv.specs.Fnv.{fnvStep, fnvFrom, fnvOf, bitsFrom};
 // The hash of no bytes.
 pub const START: u32 = 2166136261;
 
-fn wide(x: u8) -> u32
-    ensures { λ r. ⌜ (r ≡ x) × (r < 256) ⌝ }
-{
-    x as u32
-}
-
 // The product modulo 2^32.
 pub fn wrapping_mul(a: u32, b: u32) -> u32
     ensures { λ r. ⌜ r ≡ a * b % 2 ^ 32 ⌝ }
@@ -25,7 +19,7 @@ pub fn wrapping_mul(a: u32, b: u32) -> u32
 pub fn fnv_step(h: u32, b: u8) -> u32
     ensures { λ r. ⌜ r ≡ fnvStep h b ⌝ }
 {
-    wrapping_mul(h ^ wide(b), 16777619)
+    wrapping_mul(h ^ b as u32, 16777619)
 }
 
 // A hash, and each bit that one of the bytes has: below 0x80 every byte is plain, and with it text.

@@ -7,8 +7,8 @@ use lib.ListN.{length, getD, set, replicate, length-replicate}
 use lib.Seq.{sets, length-sets}
 use Rattle.slices.specs.Bytes.{Bytes}
 use Rattle.slices.proofs.Sets.{Outside, getD-sets-out}
-use Rattle.words.specs.Words.{wordAt, setWord, quadAt}
-use Rattle.words.proofs.Laws.{length-setWord, getD-setWord, word-agree, word-set-same, word-zero, quad-zero}
+use Rattle.words.specs.Words.{wordAt, setWord}
+use Rattle.words.proofs.Laws.{length-setWord, getD-setWord, word-agree, word-set-same, word-zero}
 use Rattle.layout.specs.declared.Sizes.{Sizes}
 use Rattle.layout.specs.Sizes.{InRange, pageBytes, listBytes}
 use Rattle.layout.specs.Fields.{format}
@@ -95,9 +95,6 @@ opened-beyond s lists k h =
 
 pub opened-zero : (s : Sizes) (lists : Bytes) (i : ℕ) → 6 ≤ i → 8 * i + 8 ≤ listBytes s → wordAt (openedLists s lists) i ≡ 0
 opened-zero s lists i h l = word-zero (openedLists s lists) i (λ k g. zero-byte s lists (8 * i + k) (omega arith) (omega arith))
-
-pub opened-quad : (s : Sizes) (lists : Bytes) (i : ℕ) → 12 ≤ i → 4 * i + 4 ≤ listBytes s → quadAt (openedLists s lists) i ≡ 0
-opened-quad s lists i h l = quad-zero (openedLists s lists) i (λ k g. zero-byte s lists (4 * i + k) (omega arith) (omega arith))
 
 word : (s : Sizes) (lists : Bytes) (k : ℕ) → listBytes s ≤ length lists → k < 6 → getD (header s) k 0 < 2 ^ 64
     → wordAt (openedLists s lists) k ≡ getD (header s) k 0

@@ -2,7 +2,7 @@
 --   word 0             the format
 --   1 to 5             the sizes
 --   6                  the lowest untaken page
---   16 + 4d            dictionary d: its entries; 17 + 4d its current page + 1; 18 + 4d its pages
+--   16 + stride × d    dictionary d: how many entries it has; then its current page + 1; then how many pages it has
 --   64 + i             page i: its dictionary + 1, used bytes, position among its dictionary's pages
 --   then, for each dictionary, e entry words (page, offset, length), e order words, and 2e index places of four bytes (entry + 1, top bits of its hash)
 --   then, for each kind, b words: the global block + 1 of each local block
@@ -19,14 +19,18 @@ format = 0x32636964656D616E
 abbrev pub untakenAt : ℕ
 untakenAt = 6
 
+-- How many words of the header each dictionary has. The last of them is kept free.
+abbrev pub stride : ℕ
+stride = 4
+
 abbrev pub countAt : ℕ → ℕ
-countAt d = 16 + 4 * d
+countAt d = 16 + stride * d
 
 abbrev pub currentAt : ℕ → ℕ
-currentAt d = 17 + 4 * d
+currentAt d = 17 + stride * d
 
 abbrev pub takenAt : ℕ → ℕ
-takenAt d = 18 + 4 * d
+takenAt d = 18 + stride * d
 
 abbrev pub pageAt : ℕ → ℕ
 pageAt i = 64 + i

@@ -17,7 +17,7 @@ pub const KINDS: usize = 4;
 pub const DICTIONARIES: usize = 6;
 
 // Words of `lists`; specs/Fields.antt has the whole table. The lowest untaken page; of dictionary 0 its count of entries, its current page + 1
-// and its count of pages (each dictionary has four words); page 0.
+// and its count of pages, those of the next dictionary STRIDE words on; page 0.
 pub const UNTAKEN: usize = 6;
 
 pub const COUNT: usize = 16;
@@ -25,6 +25,8 @@ pub const COUNT: usize = 16;
 pub const CURRENT: usize = 17;
 
 pub const TAKEN: usize = 18;
+
+pub const STRIDE: usize = 4;
 
 pub const PAGES: usize = 64;
 

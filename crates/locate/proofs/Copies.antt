@@ -7,10 +7,8 @@ use lib.ListN.{length, take, drop, length-append}
 use lib.Seq.{sets}
 use Rattle.slices.specs.Bytes.{Bytes}
 use Rattle.string_dv_dict.proofs.Writes.{two}
-use Rattle.layout.specs.declared.Sizes.{Sizes}
-use Rattle.layout.specs.Sizes.{pageBytes}
 use Rattle.locate.specs.declared.Pieces.{Pieces}
-use Rattle.locate.specs.Located.{unescapedIf, piecesIn, Within}
+use Rattle.locate.specs.Located.{unescapedIf, piecesIn, Copyable}
 use Rattle.locate.proofs.Cuts.{length-cut}
 
 abbrev pub frontOf : Bytes → Pieces → Bytes
@@ -19,9 +17,9 @@ frontOf pages x = take (x .«front_len») (drop (x .«front_at») pages)
 abbrev pub backOf : Bytes → Pieces → Bytes
 backOf pages x = unescapedIf (x .escaped) (take (x .«back_len») (drop (x .«back_at») pages))
 
-module _ (s : Sizes) (pages : Bytes) (x : Pieces) (there : pageBytes s ≤ length pages) (W : Within s pages x) where
+module _ (pages : Bytes) (x : Pieces) (W : Copyable pages x) where
   pub front-length : length (frontOf pages x) ≡ x .«front_len»
-  front-length = length-cut pages (x .«front_at») (x .«front_len») (omega (arith, W .front))
+  front-length = length-cut pages (x .«front_at») (x .«front_len») (W .front)
 
   pub both-lengths : length (frontOf pages x) + length (backOf pages x) ≡ x .first + x .second
   unfolding piecesIn

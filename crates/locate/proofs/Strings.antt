@@ -24,6 +24,20 @@ use Rattle.locate.specs.declared.Located.the-variants.{At, Bad}
 use Rattle.locate.specs.Located.{piecesIn, LocatesEntry}
 use Rattle.locate.proofs.Cuts.{length-cut, cut-behind, cut-inner}
 
+-- ---- where the parts of a packed form lie, in any pages
+
+module _ (pages : Bytes) (at len : ℕ) (fits : at + len ≤ length pages) where
+  whole : length (take len (drop at pages)) ≡ len
+  whole = length-cut pages at len fits
+
+  pub short-within : (n : ℕ) → splitOf (take len (drop at pages)) ≡ F.Short n → n + 1 ≤ len
+  short-within n e = omega (arith, split-parts _ (F.Short n) e .within, whole)
+
+  pub long-within : (end n : ℕ) → splitOf (take len (drop at pages)) ≡ F.Long end n → end + 2 ≤ len
+  long-within end n e = omega (arith, split-parts _ (F.Long end n) e .within, whole)
+
+-- ---- the names
+
 module _ (s : Sizes) (pages lists : Bytes) (at len : ℕ) (there : pageBytes s ≤ length pages) (fits : at + len ≤ pageBytes s) where
   pub located-plain : LocatesEntry s pages lists 1 at len (At (record {
     kind = 1;
@@ -59,16 +73,10 @@ module _ (s : Sizes) (pages lists : Bytes) (at len : ℕ) (there : pageBytes s �
       let b : take len (drop at pages) ≡ packed (a .first) (a .second) = rw q at h in
       rw b (pack-unpack (a .first) (a .second) (is-legal (a .first) (a .second) (legal-pair s a p (rw q))))
 
-  whole : length (take len (drop at pages)) ≡ len
-  whole = length-cut pages at len (omega arith)
-
   pub located-cut : splitOf (take len (drop at pages)) ≡ F.Cut → LocatesEntry s pages lists 2 at len Bad
   located-cut e = record { range = tt; right = λ st a S p q old h. clash (unpacks a (st .part 2 .heads) p q h .0) (split-parts _ F.Cut e) }
 
   module _ (n : ℕ) (e : splitOf (take len (drop at pages)) ≡ F.Short n) where
-    pub short-within : n + 1 ≤ len
-    short-within = omega (arith, split-parts _ (F.Short n) e .within, whole)
-
     pub located-short : LocatesEntry s pages lists 2 at len (At (record {
       kind = 2;
       first = len - (n + 1);
@@ -82,7 +90,7 @@ module _ (s : Sizes) (pages lists : Bytes) (at len : ℕ) (there : pageBytes s �
     unfolding piecesIn
     located-short =
         let S = split-parts _ (F.Short n) e in
-        let inner : n + 1 ≤ len = short-within in
+        let inner : n + 1 ≤ len = short-within pages at len (omega arith) n e in
         let lf : length (take (len - (n + 1)) (drop (at + (n + 1)) pages)) ≡ len - (n + 1) = length-cut pages (at + (n + 1)) (len - (n + 1)) (omega arith) in
         let lb : length (take n (drop (at + 1) pages)) ≡ n = length-cut pages (at + 1) n (omega arith) in
         record {
@@ -103,9 +111,6 @@ module _ (s : Sizes) (pages lists : Bytes) (at len : ℕ) (there : pageBytes s �
         }
 
   module _ (end n : ℕ) (e : splitOf (take len (drop at pages)) ≡ F.Long end n) where
-    pub long-within : end + 2 ≤ len
-    long-within = omega (arith, split-parts _ (F.Long end n) e .within, whole)
-
     pub located-long : LocatesEntry s pages lists 2 at len (At (record {
       kind = 2;
       first = len - (end + 2);
@@ -119,7 +124,7 @@ module _ (s : Sizes) (pages lists : Bytes) (at len : ℕ) (there : pageBytes s �
     unfolding piecesIn
     located-long =
         let S = split-parts _ (F.Long end n) e in
-        let inner : end + 2 ≤ len = long-within in
+        let inner : end + 2 ≤ len = long-within pages at len (omega arith) end n e in
         let E = take len (drop at pages) in
         let lf : length (take (len - (end + 2)) (drop (at + (end + 2)) pages)) ≡ len - (end + 2) = length-cut pages (at + (end + 2)) (len - (end + 2)) (omega arith) in
         let t : take end (drop (at + 1) pages) ≡ escaped (tagIn E) = cut-inner pages at len (omega arith) 1 end (omega arith) ∙ sym (S .tag) in

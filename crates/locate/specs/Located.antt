@@ -26,7 +26,13 @@ unescapedIf false s = s
 unfoldable pub piecesIn : Bytes → Pieces → Bytes
 piecesIn pages x = take (x .«front_len») (drop (x .«front_at») pages) ++ unescapedIf (x .escaped) (take (x .«back_len») (drop (x .«back_at») pages))
 
--- On any memory the pieces lie in the pages, and are as long as both parts together.
+-- The pieces lie in the pages, and are as long as both parts together.
+pub record Copyable (pages : Bytes) (x : Pieces) : Type 0 where
+  pub front : x .«front_at» + x .«front_len» ≤ length pages
+  pub back : x .«back_at» + x .«back_len» ≤ length pages
+  pub lengths : length (piecesIn pages x) ≡ x .first + x .second
+
+-- So they do on any memory, in what the sizes need of the pages.
 pub record Within (s : Sizes) (pages : Bytes) (x : Pieces) : Type 0 where
   pub kinded : x .kind < kinds
   pub front : x .«front_at» + x .«front_len» ≤ pageBytes s
@@ -60,6 +66,10 @@ pub record LocatesEntry (s : Sizes) (pages lists : Bytes) (k at len : ℕ) (r : 
   pub right : (st : State) (a : Name) → Stands s st pages lists → checks s a ≡ none → a .kind ≡ k → newHead a (st .part k) ≡ false
       → take len (drop at pages) ≡ keyOf (st .part k .heads) a
       → Tells pages (some a) r
+
+-- The same of an entry that needs no other: whatever sizes and lists the pages go with.
+abbrev pub LocatesAlone : Bytes → ℕ → ℕ → ℕ → Located → Type 0
+LocatesAlone pages k at len r = (s : Sizes) (lists : Bytes) → pageBytes s ≤ length pages → at + len ≤ pageBytes s → LocatesEntry s pages lists k at len r
 
 -- The name of a number.
 pub record LocatesName (s : Sizes) (pages lists : Bytes) (number : ℕ) (r : Located) : Type 0 where

@@ -16,9 +16,10 @@ ghost use mathlib.Core.List.{_++_};
 ghost use Prim.Native.Nat.{_+_, _≤_, _<_};
 ghost use lib.ListN.{length, drop};
 ghost use lib.Seq.{sets};
+ghost use Rattle.slices.specs.Bytes.{Bytes};
 ghost use Rattle.layout.specs.Sizes.{InRange, kinds, pageBytes, listBytes};
 ghost use Rattle.model.specs.Kinds.{row};
-ghost use Rattle.locate.specs.Located.{unescapedIf, piecesIn, Within, LocatesEntry, LocatesName};
+ghost use Rattle.locate.specs.Located.{unescapedIf, piecesIn, Copyable, LocatesEntry, LocatesAlone, LocatesName};
 
 // A name in the pages: its kind, the lengths of its parts, and two pieces whose bytes are the first part, then the second. The pieces are an IRI's or a typed
 // value's head and rest, a plain string and nothing, a tagged string's text and its tag, which is escaped if it is a long one.
@@ -78,39 +79,50 @@ fn locate_pair(pages: &[u8], lists: &[u8], s: Sizes, k: usize, at: usize, len: u
 }
 
 // An entry is a packed text and tag.
-fn locate_tagged(pages: &[u8], lists: &[u8], s: Sizes, at: usize, len: usize) -> Located
-    requires { ⌜ InRange s × (pageBytes s ≤ length (now pages)) × (at + len ≤ pageBytes s) ⌝ }
-    ensures { λ r. ⌜ LocatesEntry s (now (pages .entry)) (now (lists .entry)) 2 at len r ⌝ }
+fn locate_tagged(pages: &[u8], at: usize, len: usize) -> Located
+    requires { ⌜ at + len ≤ length (now pages) ⌝ }
+    ensures { λ r. ⌜ LocatesAlone (now (pages .entry)) 2 at len r ⌝ }
 {
     match string_dv_dict::split(bytes_dictionary::id_to_bytes(pages, at, len)) {
-        Form::Short(n) => Located::At(Pieces {
-            kind: TAGGED,
-            first: len - (n + 1),
-            second: n,
-            front_at: at + (n + 1),
-            front_len: len - (n + 1),
-            back_at: at + 1,
-            back_len: n,
-            escaped: false,
-        }),
-        Form::Long(end, n) => Located::At(Pieces {
-            kind: TAGGED,
-            first: len - (end + 2),
-            second: n,
-            front_at: at + (end + 2),
-            front_len: len - (end + 2),
-            back_at: at + 1,
-            back_len: end,
-            escaped: true,
-        }),
+        Form::Short(n) => {
+            let before = n + 1;
+            let text = len - before;
+            let front_at = at + before;
+            let back_at = at + 1;
+            Located::At(Pieces {
+                kind: TAGGED,
+                first: text,
+                second: n,
+                front_at,
+                front_len: text,
+                back_at,
+                back_len: n,
+                escaped: false,
+            })
+        }
+        Form::Long(end, n) => {
+            let before = end + 2;
+            let text = len - before;
+            let front_at = at + before;
+            let back_at = at + 1;
+            Located::At(Pieces {
+                kind: TAGGED,
+                first: text,
+                second: n,
+                front_at,
+                front_len: text,
+                back_at,
+                back_len: end,
+                escaped: true,
+            })
+        }
         Form::Cut => Located::Bad,
     }
 }
 
 // An entry is a plain string.
-fn locate_plain(pages: &[u8], lists: &[u8], s: Sizes, at: usize, len: usize) -> Located
-    requires { ⌜ InRange s × (pageBytes s ≤ length (now pages)) × (at + len ≤ pageBytes s) ⌝ }
-    ensures { λ r. ⌜ LocatesEntry s (now (pages .entry)) (now (lists .entry)) 1 at len r ⌝ }
+fn locate_plain(at: usize, len: usize) -> Located
+    ensures { λ r. ⌜ ((pages : Bytes) → LocatesAlone pages 1 at len r) ⌝ }
 {
     Located::At(Pieces {
         kind: PLAIN,
@@ -130,10 +142,10 @@ fn locate_entry(pages: &[u8], lists: &[u8], s: Sizes, k: usize, at: usize, len: 
     ensures { λ r. ⌜ LocatesEntry s (now (pages .entry)) (now (lists .entry)) k at len r ⌝ }
 {
     if k == PLAIN {
-        return locate_plain(pages, lists, s, at, len);
+        return locate_plain(at, len);
     }
     if k == TAGGED {
-        return locate_tagged(pages, lists, s, at, len);
+        return locate_tagged(pages, at, len);
     }
     locate_pair(pages, lists, s, k, at, len)
 }
@@ -170,8 +182,8 @@ fn write_piece(piece: &[u8], escaped: bool, buffer: &mut [u8], at: usize)
 }
 
 // Writes a located name at the buffer's start: the first part, then the second.
-pub fn copy_name(pages: &[u8], s: Sizes, x: Pieces, buffer: &mut [u8])
-    requires { ⌜ (pageBytes s ≤ length (now pages)) × Within s (now pages) x × (x .first + x .second ≤ length (now buffer)) ⌝ }
+pub fn copy_name(pages: &[u8], x: Pieces, buffer: &mut [u8])
+    requires { ⌜ Copyable (now pages) x × (x .first + x .second ≤ length (now buffer)) ⌝ }
     ensures { λ _. ⌜ now (buffer .exit) ≡ piecesIn (now (pages .entry)) x ++ drop (x .first + x .second) (now (buffer .entry)) ⌝ }
 {
     let front = bytes_dictionary::id_to_bytes(pages, x.front_at, x.front_len);

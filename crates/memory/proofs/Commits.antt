@@ -27,7 +27,7 @@ use Rattle.bytes_buffer.proofs.Spots.{next-in}
 use Rattle.bytes_buffer.proofs.Plans.{current-pages, next-pages, spot-kept}
 use Rattle.bytes_dictionary.specs.Written.{pagesAfter, listsAfter, HasRoom, IsSpot}
 use Rattle.bytes_dictionary.specs.Store.{Store, inserted, StoreAt}
-use Rattle.bytes_dictionary.specs.Trace.{Ready}
+use Rattle.bytes_dictionary.specs.Ready.{Ready}
 use Rattle.bytes_dictionary.proofs.Updates.{upd-other}
 use Rattle.bytes_dictionary.proofs.Written.{plan-room}
 use Rattle.bytes_dictionary.proofs.Beside.{words-beside, places-beside, misses-kept}

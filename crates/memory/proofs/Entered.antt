@@ -29,7 +29,7 @@ use Rattle.bytes_buffer.specs.Spots.{spotIn, untakenAfter}
 use Rattle.bytes_buffer.proofs.Pages.{grown-other, pages-fit, pages-unfit}
 use Rattle.bytes_buffer.proofs.Plans.{plan-says, current-pages, next-pages, none-over}
 use Rattle.bytes_dictionary.specs.Written.{pagesAfter, listsAfter, IsSpot}
-use Rattle.bytes_dictionary.specs.Trace.{Ready}
+use Rattle.bytes_dictionary.specs.Ready.{Ready}
 use Rattle.meta_dv_dict.specs.Blocks.{pick, global}
 use Rattle.meta_dv_dict.specs.Answers.{written}
 use Rattle.model.specs.Names.{Name}

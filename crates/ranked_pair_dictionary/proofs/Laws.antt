@@ -2,14 +2,14 @@
 use Prim.Native.Nat.{ℕ, zero, suc, _+_, _*_, _/_, _%_, _^_, _≤_, _<_}
 use mathlib.Core.Path.{_≡_, refl, sym, ap, _∙_}
 use mathlib.Core.Logic.{inl, inr}
-use mathlib.Core.List.{[], _∷_, _++_}
+use mathlib.Core.List.{_++_}
 use mathlib.Core.Option.{none, some}
 use native.Mathlib.Nat.{div-one, div-div-eq-div-mul, div-lt-iff-lt-mul, one-le-pow, pow-suc}
 use native.Mathlib.Numerals.{add-one}
 use native.Mathlib.Omega.{arith}
 use borrow.Author.Tests.{ltb-true, le-leb, lt-leb, lt-ltb, le-ltb}
 use lib.Dec.{ltb}
-use lib.ListN.{length, getD, length-append}
+use lib.ListN.{length, length-append}
 use lib.Seq.{take-at, drop-append-seam}
 use Rattle.slices.specs.Bytes.{Bytes}
 use Rattle.slices.proofs.Tests.{Split, split}
@@ -50,16 +50,6 @@ read-back n f rest h =
     let q : (64 * n + f / 256 ^ n) % 64 ≡ f / 256 ^ n = omega arith in
     let l : n ≤ length (be n f ++ rest) = omega (arith, length-append (be n f) rest, length-be n f) in
     rw (p, q, le-leb n (length (be n f ++ rest)) l, take-at (be n f) rest n (length-be n f), of-be n f)
-
-be-bytes : (n x i : ℕ) → getD (be n x) i 0 < 256
-be-bytes zero x i = omega arith
-be-bytes (suc n) x zero = omega arith
-be-bytes (suc n) x (suc i) = be-bytes n x i
-
-pub frequentId-bytes : (n f i : ℕ) → n ≤ 3 → f < 64 * 256 ^ n → getD (frequentId n f) i 0 < 256
-unfolding frequentId
-frequentId-bytes n f zero k h = omega (arith, top n f h)
-frequentId-bytes n f (suc i) k h = be-bytes n f i
 
 -- ---- as few further bytes as can be
 
@@ -105,10 +95,6 @@ fid-least f (suc (suc (suc n))) h = omega (arith, further-le f)
 pub length-fid : (f : ℕ) → length (fid f) ≡ furtherBytes f + 1
 unfolding fid
 length-fid f = length-frequentId (furtherBytes f) f
-
-pub fid-bytes : (f i : ℕ) → f < 2 ^ 30 → getD (fid f) i 0 < 256
-unfolding fid
-fid-bytes f i h = frequentId-bytes (furtherBytes f) f i (further-le f) (fid-holds f h)
 
 pub fid-read : (f : ℕ) (rest : Bytes) → f < 2 ^ 30 → readAnswer (fid f ++ rest) ≡ Value f (length (fid f))
 unfolding fid

@@ -11,12 +11,6 @@ pub enum FrequentId {
     Refused(Refusal),
 }
 
-fn wide(x: u8) -> usize
-    ensures { λ r. ⌜ (r ≡ x) × (r < 256) ⌝ }
-{
-    x as usize
-}
-
 // How many bytes follow the first one.
 pub fn further_bytes(value: usize) -> usize
     ensures { λ r. ⌜ (r ≡ furtherBytes value) × (r ≤ 3) ⌝ }
@@ -64,7 +58,7 @@ pub fn read_frequent_id(bytes: &[u8]) -> FrequentId
     if bytes.len() == 0 {
         return FrequentId::Refused(Refusal::CutForm);
     }
-    let first = wide(bytes[0]);
+    let first = words::wide(bytes[0]);
     let further = first / 64;
     if bytes.len() <= further {
         return FrequentId::Refused(Refusal::CutForm);
@@ -73,7 +67,7 @@ pub fn read_frequent_id(bytes: &[u8]) -> FrequentId
     let mut value = first % 64;
     let mut left = further;
     while 0 < left {
-        value = value * 256 + wide(bytes[length - left]);
+        value = value * 256 + words::wide(bytes[length - left]);
         left -= 1;
     }
     FrequentId::Value { value, length }

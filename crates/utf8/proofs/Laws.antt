@@ -1,8 +1,7 @@
--- Two laws of text: text before anything, and text in which some characters of one byte are written as two. Assumes nothing.
+-- Text stays text, and what is none stays none, where some characters of one byte are written as two. Assumes nothing.
 use Prim.Native.Nat.{ℕ, _≤_}
 use mathlib.Core.Path.{_≡_, refl, ap, _∙_}
 use mathlib.Core.Logic.{inl, inr}
-use mathlib.Core.Bool.{true, false≢true}
 use mathlib.Core.List.{[], _∷_, _++_}
 use native.Mathlib.Omega.{arith}
 use lib.Dec.{eqb}
@@ -11,18 +10,7 @@ use Rattle.slices.proofs.Tests.{Split, split}
 use Rattle.utf8.specs.declared.Step.{Step}
 use Rattle.utf8.specs.declared.Step.the-variants.{Due, Bad}
 use Rattle.utf8.specs.Text.{within, between, firstOf, after, textFrom, isText}
-use Rattle.utf8.proofs.Bounds.{below, first-one, choose, none-due}
-
--- ---- text first
-
-append-from : (a b : Bytes) (x : Step) → textFrom x a ≡ true → textFrom x (a ++ b) ≡ textFrom between b
-append-from [] b Bad e = absurd (false≢true e)
-append-from [] b (Due n lo hi) e = none-due n lo hi e b
-append-from (c ∷ a) b x e = append-from a b (after x c) e
-
-pub text-append : (a b : Bytes) → isText a ≡ true → isText (a ++ b) ≡ isText b
-unfolding isText
-text-append a b e = append-from a b between e
+use Rattle.utf8.proofs.Bounds.{below, first-one, choose}
 
 -- ---- some bytes written as two
 

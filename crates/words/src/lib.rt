@@ -8,7 +8,8 @@ ghost use Rattle.words.specs.Words.{leAt, wordAt, setWord, quadAt, setQu
 // The top bit of each byte of a word.
 pub const TOP_BITS: usize = 0x8080808080808080;
 
-fn wide(x: u8) -> usize
+// A byte as a number.
+pub fn wide(x: u8) -> usize
     ensures { λ r. ⌜ (r ≡ x) × (r < 256) ⌝ }
 {
     x as usize

@@ -70,7 +70,9 @@ returns-2 c =
 copy-name-requires : tie.Need-copy-name-requires
 copy-name-requires c κs =
     let a = c .before .before .before .before .before .before .before .before .before .before .before .before .before .args in
-    (header (a .pages .now) (a .lists .now) (c .before .before .before .before .before .before .before .s .given .0 .0) (opened (c .before .before .before .before .before .before .before)) .pages-fit, located (c .before .before .before) .range, fits (c .before))
+    let there = header (a .pages .now) (a .lists .now) (c .before .before .before .before .before .before .before .s .given .0 .0) (opened (c .before .before .before .before .before .before .before)) .pages-fit in
+    let W = located (c .before .before .before) .range in
+    (record { front = omega (arith, there, W .front); back = omega (arith, there, W .back); lengths = W .lengths }, fits (c .before))
 
 enum-told-2 : tie.Need-enum-told-2
 enum-told-2 c = search needs

@@ -18,16 +18,16 @@ write-piece-requires c κs =
     let z = c .before .before .before .before .before in
     let p = z .args .pages .now in
     let x = z .args .x in
-    omega (arith, ap length (c .before .before .id-to-bytes .ensures), both-lengths (z .args .s) p x (z .pre .0) (z .pre .1), z .pre .2)
+    omega (arith, ap length (c .before .before .id-to-bytes .ensures), both-lengths p x (z .pre .0), z .pre .1)
 
 write-piece-requires-2 : tie.Need-write-piece-requires-2
 write-piece-requires-2 c κs =
     let z = c .before .before .before .before .before .before .before .before .before in
     let p = z .args .pages .now in
     let x = z .args .x in
-    let front = front-length (z .args .s) p x (z .pre .0) (z .pre .1) in
-    let both = both-lengths (z .args .s) p x (z .pre .0) (z .pre .1) in
-    rw (c .before .before .before .before .before .id-to-bytes2 .ensures) (omega (arith, front, both, z .pre .2, c .before .before .before .write-piece .kept .1 .1 .0))
+    let front = front-length p x (z .pre .0) in
+    let both = both-lengths p x (z .pre .0) in
+    rw (c .before .before .before .before .before .id-to-bytes2 .ensures) (omega (arith, front, both, z .pre .1, c .before .before .before .write-piece .kept .1 .1 .0))
 
 same-length : tie.Need-same-length
 same-length c = search needs
@@ -40,7 +40,7 @@ returns c =
     let z = front .before .before .before in
     c .before .before .write-piece2 .ensures
     ∙ rw (w .write-piece .ensures, front .id-to-bytes .ensures, back .id-to-bytes2 .ensures)
-    (copied (z .args .s) (z .args .pages .now) (z .args .x) (z .pre .0) (z .pre .1) (z .args .buffer .now) (z .pre .2))
+    (copied (z .args .pages .now) (z .args .x) (z .pre .0) (z .args .buffer .now) (z .pre .1))
 
 pub copy-name-spec : {M : Type 1} → statement M
 copy-name-spec =

@@ -12,18 +12,20 @@ locate-plain-requires c κs = search needs
 
 returns : tie.Need-returns
 returns c =
-    let a = c .before .before .before .before .args in
+    let z = c .before .before .before .before in
+    let a = z .args in
     subst (λ (j : ℕ). LocatesEntry (a .s) (a .pages .now) (a .lists .now) j (a .at) (a .len) (c .locate-plain .result))
-    (sym (c .before .if1 .taken)) (c .locate-plain .ensures)
+    (sym (c .before .if1 .taken)) (c .locate-plain .ensures (a .pages .now) (a .s) (a .lists .now) (z .pre .0 .1) (z .pre .1 .1))
 
 locate-tagged-requires : tie.Need-locate-tagged-requires
 locate-tagged-requires c κs = search needs
 
 returns-2 : tie.Need-returns-2
 returns-2 c =
-    let a = c .before .before .before .before .before .args in
+    let z = c .before .before .before .before .before in
+    let a = z .args in
     subst (λ (j : ℕ). LocatesEntry (a .s) (a .pages .now) (a .lists .now) j (a .at) (a .len) (c .locate-tagged .result))
-    (sym (c .before .if2 .taken)) (c .locate-tagged .ensures)
+    (sym (c .before .if2 .taken)) (c .locate-tagged .ensures (a .s) (a .lists .now) (z .pre .0 .1) (z .pre .1 .1))
 
 locate-pair-requires : tie.Need-locate-pair-requires
 locate-pair-requires c κs =
