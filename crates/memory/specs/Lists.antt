@@ -1,8 +1,13 @@
 -- Lists of calls over lent memory: each call meets its entry's promise and gets the memory as the one before left it. Assumes nothing.
+use Prim.Native.Nat.{ℕ, _+_, _≤_, _<_}
 use mathlib.Core.Path.{_≡_}
-use mathlib.Core.List.{List, [], _∷_}
+use mathlib.Core.List.{List, [], _∷_, _++_}
+use lib.ListN.{length, drop}
 use Rattle.slices.specs.Bytes.{Bytes}
-use Rattle.model.specs.Calls.{Event, add, find, read, count}
+use Rattle.layout.specs.Sizes.{kinds}
+use Rattle.model.specs.Names.{Name}
+use Rattle.model.specs.Answers.{ReadAnswer, CountAnswer}
+use Rattle.model.specs.Calls.{Event, add, find, read, count, Before, Issued, freshKinds, howMany}
 use Rattle.memory.specs.Promises.{AddPost, FindPost, ReadPost, CountPost}
 
 -- Both slices in full.
@@ -21,3 +26,15 @@ Called m (count k r) m′ = CountPost (m .pages) (m .lists) k r (m′ .pages) (m
 abbrev pub Calls : Memory → List Event → Memory → Type 0
 Calls m [] z = z ≡ m
 Calls m (e ∷ es) z = (y : Memory) × Calls m es y × Called y e z
+
+-- Demand 3's sentences on a count and a read after the list: its calls were es, with o before them, and left z.
+pub record Demand3After (o : Before) (es : List Event) (z : Memory) : Type 0 where
+  -- A count of a kind gives how many adds of the kind had said fresh by then.
+  pub counts : (k : ℕ) (r : CountAnswer) (z′ : Memory) → Called z (count k r) z′ → k < kinds → r ≡ CountAnswer.count (howMany (o .count k) k (freshKinds es))
+  -- A read gives exactly its name for each number issued by then, if the buffer is long enough,
+  pub read-name : (n : ℕ) (x y : Bytes) (r : ReadAnswer) (a : Name) (z′ : Memory) → Called z (read n x r y) z′
+      → Issued o a n es → length (a .first) + length (a .second) ≤ length x
+      → (r ≡ ReadAnswer.name (a .kind) (length (a .first)) (length (a .second))) × (y ≡ a .first ++ a .second ++ drop (length (a .first) + length (a .second)) x)
+  -- and none for every other number.
+  pub read-none : (n : ℕ) (x y : Bytes) (r : ReadAnswer) (z′ : Memory) → Called z (read n x r y) z′
+      → ((a : Name) → ¬ Issued o a n es) → (r ≡ ReadAnswer.absent) × (y ≡ x)
