@@ -1,7 +1,7 @@
--- A store reads no byte of `lists` behind the dictionaries' words: memory that agrees up to there, as after a write of block words, stands for the same store.
--- Assumes nothing.
+-- A store reads no byte of `pages` past what the sizes need, and none of `lists` behind the dictionaries' words: memory that agrees up to there, as after a
+-- write of block words, stands for the same store. Assumes nothing.
 use Prim.Native.Nat.{ℕ, _+_, _*_, _≤_, _<_}
-use mathlib.Core.Path.{_≡_, refl, sym, ap, subst, _∙_}
+use mathlib.Core.Path.{_≡_, sym, ap, subst, _∙_}
 use mathlib.Core.Logic.{inl, inr, ⊎-elim}
 use native.Mathlib.Omega.{arith}
 use lib.ListN.{length, getD}
@@ -9,16 +9,18 @@ use Rattle.slices.specs.Bytes.{Bytes}
 use Rattle.words.specs.Words.{wordAt, quadAt}
 use Rattle.words.proofs.Laws.{word-agree, quad-agree}
 use Rattle.layout.specs.declared.Sizes.{Sizes}
-use Rattle.layout.specs.Sizes.{dictionaries}
+use Rattle.layout.specs.Sizes.{dictionaries, pageBytes, listBytes}
 use Rattle.layout.specs.Fields.{untakenAt, currentAt, takenAt, pageAt, countAt, dictAt, entryAt, placeAt, pageOf, offsetOf, sizeOf, ownerOf, usedOf, positionOf}
+use Rattle.layout.proofs.Ranges.{in-pages}
 use Rattle.layout.proofs.Places.{dict-from, dict-below}
-use Rattle.bytes_index.specs.Entries.{Entries}
+use Rattle.bytes_index.specs.Entries.{Entries, addressOf, Stands}
 use Rattle.bytes_buffer.proofs.Tables.{framed}
 use Rattle.bytes_dictionary.specs.Store.{Store, pageWordOf, Lies, Before, DictAt, StoreAt}
-use Rattle.bytes_dictionary.proofs.Frame.{holds-agree}
+use Rattle.bytes_dictionary.proofs.Frame.{SameBytes, holds-agree}
 use Rattle.bytes_dictionary.proofs.Header.{header-kept}
 
-module _ (s : Sizes) (pages lists lists′ : Bytes) (same : (i : ℕ) → i < 8 * dictAt s dictionaries → getD lists′ i 0 ≡ getD lists i 0) where
+module _ (s : Sizes) (pages pages′ lists lists′ : Bytes) (same-pages : (i : ℕ) → i < pageBytes s → getD pages′ i 0 ≡ getD pages i 0)
+    (same : (i : ℕ) → i < 8 * dictAt s dictionaries → getD lists′ i 0 ≡ getD lists i 0) where
   words-same : (j : ℕ) → j < dictAt s dictionaries → wordAt lists′ j ≡ wordAt lists j
   words-same j l = word-agree lists′ lists j (λ k h. same (8 * j + k) (omega arith))
 
@@ -26,14 +28,14 @@ module _ (s : Sizes) (pages lists lists′ : Bytes) (same : (i : ℕ) → i < 8 
   first-same : (j : ℕ) → j < 64 + s .n → wordAt lists′ j ≡ wordAt lists j
   first-same j l = words-same j (omega (arith, dict-from s dictionaries))
 
-  dict-same : (d : ℕ) (es : Entries) (c : ℕ) (t : ℕ → ℕ) → d < dictionaries → DictAt s pages lists d es c t → DictAt s pages lists′ d es c t
+  dict-same : (d : ℕ) (es : Entries) (c : ℕ) (t : ℕ → ℕ) → d < dictionaries → DictAt s pages lists d es c t → DictAt s pages′ lists′ d es c t
   dict-same d es c t dl D =
       record {
-        held = holds-agree s (λ a. getD pages a 0) (λ i. wordAt lists (entryAt s d i)) (λ j. quadAt lists (placeAt s d j)) (λ a. getD pages a 0)
+        held = holds-agree s (λ a. getD pages a 0) (λ i. wordAt lists (entryAt s d i)) (λ j. quadAt lists (placeAt s d j)) (λ a. getD pages′ a 0)
             (λ i. wordAt lists′ (entryAt s d i)) (λ j. quadAt lists′ (placeAt s d j)) es
             (λ i key u. own i (omega (arith, D .held .entry i key u .0)))
             (λ j l. quad-agree lists′ lists (placeAt s d j) (λ k h. same (4 * placeAt s d j + k) (omega (arith, b))))
-            (λ i key u k l. refl)
+            (λ i key u k l. bytes (D .held .entry i key u .1) k l)
             (D .held);
         counted = first-same (countAt d) (omega arith) ∙ D .counted;
         most = D .most;
@@ -62,6 +64,9 @@ module _ (s : Sizes) (pages lists lists′ : Bytes) (same : (i : ℕ) → i < 8 
       own : (y : ℕ) → y < 2 * s .e → wordAt lists′ (dictAt s d + y) ≡ wordAt lists (dictAt s d + y)
       own y l = words-same (dictAt s d + y) (omega (arith, b))
 
+      bytes : {w : ℕ} {key : Bytes} → Stands s (λ a. getD pages a 0) w key → SameBytes s (λ a. getD pages a 0) (λ a. getD pages′ a 0) w (length key)
+      bytes {w} {key} t k l = same-pages (addressOf s w + k) (omega (arith, t .sized, in-pages s (pageOf w) (offsetOf w + sizeOf w) (t .paged) (t .inside)))
+
       word : ℕ → ℕ
       word i = wordAt lists (entryAt s d i)
 
@@ -73,10 +78,10 @@ module _ (s : Sizes) (pages lists lists′ : Bytes) (same : (i : ℕ) → i < 8 
           let u = D .in-use i l in
           first-same (pageAt (pageOf (wordAt lists (entryAt s d i)))) (omega (arith, D .held .entry i (u .0) (u .1) .1 .paged))
 
-  pub store-agree : (st : Store) → length lists′ ≡ length lists → StoreAt s st pages lists → StoreAt s st pages lists′
-  store-agree st l S =
+  pub store-agree : (st : Store) → pageBytes s ≤ length pages′ → listBytes s ≤ length lists′ → StoreAt s st pages lists → StoreAt s st pages′ lists′
+  store-agree st f g S =
       record {
-        header = header-kept s (length pages) (length pages) lists lists′ refl l (λ j h. first-same j (omega arith)) (S .header);
+        header = header-kept s (length pages) (length pages′) lists lists′ f g (λ j h. first-same j (omega arith)) (S .header);
         paged = framed s (st .space) (wordAt lists) (wordAt lists′) (S .paged)
             (record {
               lowest = first-same untakenAt (omega arith);

@@ -78,7 +78,7 @@ module _ (s : Sizes) (st : Store) (pages lists : Bytes) (d place stamp : ℕ) (k
   unfolding inserted
   finish page offset lists′ T P H l w =
       record {
-        header = header-kept s (length pages) _ lists lists′ (length-sets pages (page * pageSize s + offset) key) l w (S .header);
+        header = header-kept s (length pages) _ lists lists′ (rw (length-sets pages (page * pageSize s + offset) key) (F .pages-fit)) (rw l (F .lists-fit)) w (S .header);
         paged = H;
         dict = λ k kl. go k kl (ℕ-discrete k d);
       }

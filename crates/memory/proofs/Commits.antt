@@ -92,10 +92,12 @@ commit-block : (s : Sizes) (store : Store) (b : Blocks) (pages lists : Bytes) (k
 commit-block s store b pages lists k g S T h e =
     let p = picked s b k g (T .sound) (T .below) e .1 in
     let q = picked-below s b k g (T .sound) (T .below) e in (
-      store-agree s pages lists (written s lists k (b .next k) g)
+      store-agree s pages pages lists (written s lists k (b .next k) g)
+          (λ i l. refl)
           (λ i l. byte-written s lists k (b .next k) g h q p i (inl (omega (arith, dict-end s, blocks-from s 0))))
           store
-          (length-written s lists k (b .next k) g)
+          (S .header .pages-fit)
+          (rw (length-written s lists k (b .next k) g) (S .header .lists-fit))
           S,
       took-blocks s b lists k g (ranged s (S .header .ranged)) (S .header .lists-fit) T h e,
     )

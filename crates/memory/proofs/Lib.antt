@@ -8,4 +8,6 @@ pub mod Added
 pub mod Entered
 pub mod Opened
 pub mod One
+pub mod Same
+pub mod Brought
 pub mod Demand3

@@ -1,10 +1,12 @@
--- Lists of calls over lent memory: each call meets its entry's promise and gets the memory as the one before left it. Assumes nothing.
+-- Lists of calls over lent memory: each call meets its entry's promise and gets the memory as the one before left it, or slices with the same dictionary.
+-- Assumes nothing.
 use Prim.Native.Nat.{ℕ, _+_, _≤_, _<_}
 use mathlib.Core.Path.{_≡_}
 use mathlib.Core.List.{List, [], _∷_, _++_}
-use lib.ListN.{length, drop}
+use lib.ListN.{length, take, drop}
 use Rattle.slices.specs.Bytes.{Bytes}
-use Rattle.layout.specs.Sizes.{kinds}
+use Rattle.layout.specs.declared.Sizes.{Sizes}
+use Rattle.layout.specs.Sizes.{kinds, pageBytes, listBytes}
 use Rattle.model.specs.Names.{Name}
 use Rattle.model.specs.Answers.{ReadAnswer, CountAnswer}
 use Rattle.model.specs.Calls.{Event, add, find, read, count, Before, Issued, freshKinds, howMany}
@@ -27,14 +29,32 @@ abbrev pub Calls : Memory → List Event → Memory → Type 0
 Calls m [] z = z ≡ m
 Calls m (e ∷ es) z = (y : Memory) × Calls m es y × Called y e z
 
+-- ---- slices that a call brings
+
+-- The bytes that the sizes need are the same. The slices may be longer or shorter; where those of m are long enough, those of m′ are.
+pub record SameDictionary (s : Sizes) (m m′ : Memory) : Type 0 where
+  pub pages-same : take (pageBytes s) (m′ .pages) ≡ take (pageBytes s) (m .pages)
+  pub lists-same : take (listBytes s) (m′ .lists) ≡ take (listBytes s) (m .lists)
+
+-- One call after m: it brings slices with the same dictionary, and leaves z.
+abbrev pub Brings : Sizes → Memory → Event → Memory → Type 0
+Brings s m e z = (y : Memory) × SameDictionary s m y × Called y e z
+
+-- From m the calls of the list, newest first, leave z: each brings slices with the dictionary as the one before left it.
+abbrev pub Brought : Sizes → Memory → List Event → Memory → Type 0
+Brought s m [] z = z ≡ m
+Brought s m (e ∷ es) z = (y : Memory) × Brought s m es y × Brings s y e z
+
+-- ---- after the list
+
 -- Demand 3's sentences on a count and a read after the list: its calls were es, with o before them, and left z.
-pub record Demand3After (o : Before) (es : List Event) (z : Memory) : Type 0 where
+pub record Demand3After (s : Sizes) (o : Before) (es : List Event) (z : Memory) : Type 0 where
   -- A count of a kind gives how many adds of the kind had said fresh by then.
-  pub counts : (k : ℕ) (r : CountAnswer) (z′ : Memory) → Called z (count k r) z′ → k < kinds → r ≡ CountAnswer.count (howMany (o .count k) k (freshKinds es))
+  pub counts : (k : ℕ) (r : CountAnswer) (z′ : Memory) → Brings s z (count k r) z′ → k < kinds → r ≡ CountAnswer.count (howMany (o .count k) k (freshKinds es))
   -- A read gives exactly its name for each number issued by then, if the buffer is long enough,
-  pub read-name : (n : ℕ) (x y : Bytes) (r : ReadAnswer) (a : Name) (z′ : Memory) → Called z (read n x r y) z′
+  pub read-name : (n : ℕ) (x y : Bytes) (r : ReadAnswer) (a : Name) (z′ : Memory) → Brings s z (read n x r y) z′
       → Issued o a n es → length (a .first) + length (a .second) ≤ length x
       → (r ≡ ReadAnswer.name (a .kind) (length (a .first)) (length (a .second))) × (y ≡ a .first ++ a .second ++ drop (length (a .first) + length (a .second)) x)
   -- and none for every other number.
-  pub read-none : (n : ℕ) (x y : Bytes) (r : ReadAnswer) (z′ : Memory) → Called z (read n x r y) z′
+  pub read-none : (n : ℕ) (x y : Bytes) (r : ReadAnswer) (z′ : Memory) → Brings s z (read n x r y) z′
       → ((a : Name) → ¬ Issued o a n es) → (r ≡ ReadAnswer.absent) × (y ≡ x)

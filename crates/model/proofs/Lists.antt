@@ -16,10 +16,10 @@ use Rattle.meta_dv_dict.proofs.Rule.{rule-steps}
 use Rattle.model.specs.Names.{Name, size}
 use Rattle.model.specs.Answers.{AddAnswer, FindAnswer, ReadAnswer, CountAnswer}
 use Rattle.model.specs.State.{State, opened, numberOf, nameOf}
-use Rattle.model.specs.Steps.{checks, addAnswer, afterAdd, findBy, findChecked, findAnswer, readAnswer, readBuffer, countAnswer}
+use Rattle.model.specs.Steps.{checks, addAnswer, findBy, findChecked, findAnswer, readAnswer, readBuffer, countAnswer}
 use Rattle.model.specs.Good.{Good}
 use Rattle.model.specs.Calls.{Event, add, find, read, count, At, Gave, Accepted, Before, nothing, Given, Issued, freshKinds, howMany, Demand3}
-use Rattle.model.specs.Runs.{Step, Runs}
+use Rattle.model.specs.Runs.{Right, after, Runs}
 use Rattle.model.specs.Order.{ordered, freshNames}
 use Rattle.model.proofs.Numbers.{read-back, number-back}
 use Rattle.model.proofs.Good.{opened-good, add-good}
@@ -27,18 +27,6 @@ use Rattle.model.proofs.Order.{order-by}
 use Rattle.model.proofs.Adds.{keeps, came, gave, was-known, was-new, blocks-by, count-by}
 
 -- ---- a list whose answers are those of the states
-
-abbrev Right : Sizes → State → Event → Type 0
-Right s st (add a r) = r ≡ addAnswer s st a
-Right s st (find a r) = r ≡ findAnswer s st a
-Right s st (read n x r y) = (r ≡ readAnswer s st n x) × (y ≡ readBuffer s st n x)
-Right s st (count k r) = r ≡ countAnswer st k
-
-abbrev after : Sizes → State → Event → State
-after s st (add a r) = afterAdd s st a
-after s st (find a r) = st
-after s st (read n x r y) = st
-after s st (count k r) = st
 
 -- The state after a list of events.
 abbrev stateOf : Sizes → State → List Event → State
@@ -49,18 +37,12 @@ abbrev Model : Sizes → State → List Event → Type 0
 Model s st [] = Unit {0}
 Model s st (e ∷ es) = Right s (stateOf s st es) e × Model s st es
 
-module _ (Mem : Type 0) (Stands : Sizes → State → Mem → Type 0) (s : Sizes) (st : State) (m : Mem) (begin : Stands s st m) where
-  one : (e : Event) (x : State) (y z : Mem) → Stands s x y → Step Mem Stands y e z → Right s x e × Stands s (after s x e) z
-  one (add a r) x y z h p = p s x h
-  one (find a r) x y z h p = (p .0 s x h, rw (p .1) h)
-  one (read n b r o) x y z h p = (p .0 s x h, rw (p .1) h)
-  one (count k r) x y z h p = (p .0 s x h, rw (p .1) h)
-
-  model : (es : List Event) (z : Mem) → Runs Mem Stands m es z → Model s st es × Stands s (stateOf s st es) z
+module _ (Mem : Type 0) (s : Sizes) (Stands : State → Mem → Type 0) (st : State) (m : Mem) (begin : Stands st m) where
+  model : (es : List Event) (z : Mem) → Runs Mem s Stands m es z → Model s st es × Stands (stateOf s st es) z
   model [] z r = (tt, rw r begin)
   model (e ∷ es) z r =
-      let h : Model s st es × Stands s (stateOf s st es) (r .0) = model es (r .0) (r .1) in
-      let k : Right s (stateOf s st es) e × Stands s (after s (stateOf s st es) e) z = one e (stateOf s st es) (r .0) z (h .1) (r .2) in
+      let h : Model s st es × Stands (stateOf s st es) (r .0) = model es (r .0) (r .1) in
+      let k : Right s (stateOf s st es) e × Stands (after s (stateOf s st es) e) z = r .2 (stateOf s st es) (h .1) in
       ((k .0, h .0), k .1)
 
 -- ---- the events and the state they lead to
@@ -258,21 +240,21 @@ opened-empty = refl
 state-starts : (s : Sizes) (st : State) → Starts s st (beforeOf s st)
 state-starts s st = record { given = λ a n e. e; had = λ a n e. e; count = λ k. refl; rule = λ ks k. refl }
 
-module _ (Mem : Type 0) (Stands : Sizes → State → Mem → Type 0) (s : Sizes) (m z : Mem) (es : List Event) (runs : Runs Mem Stands m es z) where
+module _ (Mem : Type 0) (s : Sizes) (Stands : State → Mem → Type 0) (m z : Mem) (es : List Event) (runs : Runs Mem s Stands m es z) where
   -- From any good state, its names counted as given before the list.
-  pub lists-from : (st : State) → Good s st → Stands s st m → Demand3 (beforeOf s st) es
-  lists-from st G h = holds s st G (beforeOf s st) (state-starts s st) es (model Mem Stands s st m h es z runs .0)
+  pub lists-from : (st : State) → Good s st → Stands st m → Demand3 (beforeOf s st) es
+  lists-from st G h = holds s st G (beforeOf s st) (state-starts s st) es (model Mem s Stands st m h es z runs .0)
 
-  -- From a freshly opened dictionary. A call after the list makes a longer list, so it is covered.
-  module _ (R : InRange s) (h : Stands s opened m) where
+  -- From a freshly opened dictionary.
+  module _ (R : InRange s) (h : Stands opened m) where
     pub demand-3 : Demand3 (nothing s) es
-    demand-3 = holds s opened (opened-good s R) (nothing s) (opened-starts s) es (model Mem Stands s opened m h es z runs .0)
+    demand-3 = holds s opened (opened-good s R) (nothing s) (opened-starts s) es (model Mem s Stands opened m h es z runs .0)
 
     -- The memory then stands for all fresh names in the order of their adds, across the kinds.
-    pub stands-for : (st : State) × Stands s st z × Good s st × (ordered st ≡ freshNames [] es)
+    pub stands-for : (st : State) × Stands st z × Good s st × (ordered st ≡ freshNames [] es)
     stands-for =
         let G : Good s opened = opened-good s R in
-        let k = model Mem Stands s opened m h es z runs in (
+        let k = model Mem s Stands opened m h es z runs in (
           stateOf s opened es,
           k .1,
           good s opened G (nothing s) (opened-starts s) es,

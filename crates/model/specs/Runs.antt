@@ -6,16 +6,27 @@ use Rattle.model.specs.State.{State}
 use Rattle.model.specs.Steps.{addAnswer, afterAdd, findAnswer, readAnswer, readBuffer, countAnswer}
 use Rattle.model.specs.Calls.{Event, add, find, read, count}
 
--- `Stands s st m`: the memory m holds a dictionary of these sizes in this state.
-module _ (Mem : Type 0) (Stands : Sizes → State → Mem → Type 0) where
+-- A call answers as the state says.
+abbrev pub Right : Sizes → State → Event → Type 0
+Right s st (add a r) = r ≡ addAnswer s st a
+Right s st (find a r) = r ≡ findAnswer s st a
+Right s st (read n x r y) = (r ≡ readAnswer s st n x) × (y ≡ readBuffer s st n x)
+Right s st (count k r) = r ≡ countAnswer st k
+
+-- The state after a call.
+abbrev pub after : Sizes → State → Event → State
+after s st (add a r) = afterAdd s st a
+after s st (find a r) = st
+after s st (read n x r y) = st
+after s st (count k r) = st
+
+-- `Stands st m`: the memory m holds a dictionary of the sizes s in this state.
+module _ (Mem : Type 0) (s : Sizes) (Stands : State → Mem → Type 0) where
   -- One call: the memory before, the call with its answer, the memory after.
   abbrev pub Step : Mem → Event → Mem → Type 0
-  Step m (add a r) m′ = (s : Sizes) (st : State) → Stands s st m → (r ≡ addAnswer s st a) × Stands s (afterAdd s st a) m′
-  Step m (find a r) m′ = ((s : Sizes) (st : State) → Stands s st m → r ≡ findAnswer s st a) × (m′ ≡ m)
-  Step m (read n x r y) m′ = ((s : Sizes) (st : State) → Stands s st m → (r ≡ readAnswer s st n x) × (y ≡ readBuffer s st n x)) × (m′ ≡ m)
-  Step m (count k r) m′ = ((s : Sizes) (st : State) → Stands s st m → r ≡ countAnswer st k) × (m′ ≡ m)
+  Step m e m′ = (st : State) → Stands st m → Right s st e × Stands (after s st e) m′
 
-  -- From m the calls of the list leave z: each gets the memory as the one before left it.
+  -- From m the calls of the list leave z.
   abbrev pub Runs : Mem → List Event → Mem → Type 0
   Runs m [] z = z ≡ m
   Runs m (e ∷ es) z = (y : Mem) × Runs m es y × Step y e z
