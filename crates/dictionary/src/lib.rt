@@ -52,7 +52,7 @@ pub fn open(
     w: usize,
     b: usize,
 ) -> OpenResult
-    ensures { λ r. ⌜ OpenPost (record { p = p; n = n; e = e; w = w; b = b }) (now (pages .entry)) (now (lists .entry)) (openedBy r) (now (pages .entry)) (now (lists .exit)) ⌝ }
+    ensures { λ r. ⌜ OpenPost (record { p = p; n = n; e = e; w = w; b = b }) (now (pages .entry)) (now (lists .entry)) (openedBy r) (now (pages .exit)) (now (lists .exit)) ⌝ }
 {
     let Made::Fit(s) = Sizes::new(p, n, e, w, b) else {
         return OpenResult::Refused(Refusal::BadSize);
@@ -94,7 +94,7 @@ pub fn find<'a>(
     first: &'a [u8],
     second: &'a [u8],
 ) -> FindResult
-    ensures { λ r. ⌜ FindPost (now (pages .entry)) (now (lists .entry)) (entered kind (now (first .entry)) (now (second .entry))) (foundBy r) (now (pages .entry)) (now (lists .entry)) ⌝ }
+    ensures { λ r. ⌜ FindPost (now (pages .entry)) (now (lists .entry)) (entered kind (now (first .entry)) (now (second .entry))) (foundBy r) (now (pages .exit)) (now (lists .exit)) ⌝ }
 {
     let Header::Opened(s) = layout::check_header(pages, lists) else {
         return FindResult::Refused(Refusal::Unopened);
@@ -123,7 +123,7 @@ pub fn find<'a>(
 
 // The name that has a number: its parts at the buffer's start, one after the other.
 pub fn read(pages: &[u8], lists: &[u8], number: GlobalId, buffer: &mut [u8]) -> ReadResult
-    ensures { λ r. ⌜ ReadPost (now (pages .entry)) (now (lists .entry)) (number .0) (now (buffer .entry)) (toldBy r) (now (buffer .exit)) (now (pages .entry)) (now (lists .entry)) ⌝ }
+    ensures { λ r. ⌜ ReadPost (now (pages .entry)) (now (lists .entry)) (number .0) (now (buffer .entry)) (toldBy r) (now (buffer .exit)) (now (pages .exit)) (now (lists .exit)) ⌝ }
 {
     let Header::Opened(s) = layout::check_header(pages, lists) else {
         return ReadResult::Refused(Refusal::Unopened);
@@ -150,7 +150,7 @@ pub fn read(pages: &[u8], lists: &[u8], number: GlobalId, buffer: &mut [u8]) -> 
 
 // How many names of a kind there are.
 pub fn count(pages: &[u8], lists: &[u8], kind: usize) -> CountResult
-    ensures { λ r. ⌜ CountPost (now (pages .entry)) (now (lists .entry)) kind (countedBy r) (now (pages .entry)) (now (lists .entry)) ⌝ }
+    ensures { λ r. ⌜ CountPost (now (pages .entry)) (now (lists .entry)) kind (countedBy r) (now (pages .exit)) (now (lists .exit)) ⌝ }
 {
     let Header::Opened(s) = layout::check_header(pages, lists) else {
         return CountResult::Refused(Refusal::Unopened);

@@ -1,5 +1,5 @@
--- What each entry promises of its answer and of all lent bytes afterwards, whatever memory is lent. Where an entry borrows a slice for reading only, its
--- bytes afterwards are those before. Assumes nothing.
+-- What each entry promises of its answer and of all lent bytes afterwards, whatever memory is lent. A promise takes the bytes of pages and lists before the
+-- call and after it, also where the entry borrows them for reading only. Assumes nothing.
 use Prim.Native.Nat.{ℕ, _+_, _/_, _^_, _<_, _≤_}
 use mathlib.Core.Path.{_≡_}
 use mathlib.Core.Bool.{true}

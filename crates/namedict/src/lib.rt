@@ -187,6 +187,7 @@ fn counted(answer: CountResult) -> NamedictCounted
 #[no_mangle]
 pub extern "C" fn namedict_is_text(bytes: &[u8]) -> u64
     ensures { λ r. ⌜ r ≡ yesNo (isText (now (bytes .entry))) ⌝ }
+    ensures kept { λ _. ⌜ now (bytes .exit) ≡ now (bytes .entry) ⌝ }
 {
     if utf8::is_text(bytes) { 1 } else { 0 }
 }
@@ -195,6 +196,7 @@ pub extern "C" fn namedict_is_text(bytes: &[u8]) -> u64
 #[no_mangle]
 pub extern "C" fn namedict_split_iri(iri: &[u8]) -> u64
     ensures { λ r. ⌜ r ≡ lengthOf (headOf (now (iri .entry))) ⌝ }
+    ensures kept { λ _. ⌜ now (iri .exit) ≡ now (iri .entry) ⌝ }
 {
     let head = ranked_pair_iri_dv_dict::rfind_hashslash_plus(iri);
     let Head::Length(n) = head else {
@@ -215,6 +217,7 @@ pub extern "C" fn namedict_write_fid(value: u64, buffer: &mut [u8]) -> NamedictW
 #[no_mangle]
 pub extern "C" fn namedict_read_fid(bytes: &[u8]) -> NamedictValue
     ensures { λ r. ⌜ r ≡ valueNumbers (readAnswer (now (bytes .entry))) ⌝ }
+    ensures kept { λ _. ⌜ now (bytes .exit) ≡ now (bytes .entry) ⌝ }
 {
     match ranked_pair_dictionary::read_frequent_id(bytes) {
         FrequentId::Value { value, length } => NamedictValue {
@@ -234,6 +237,7 @@ pub extern "C" fn namedict_read_fid(bytes: &[u8]) -> NamedictValue
 #[no_mangle]
 pub extern "C" fn namedict_pack(text: &[u8], tag: &[u8], buffer: &mut [u8]) -> NamedictWritten
     ensures { λ r. ⌜ (r ≡ writtenNumbers (packAnswer (now (text .entry)) (now (tag .entry)) (length (now (buffer .entry))))) × (now (buffer .exit) ≡ packBuffer (now (text .entry)) (now (tag .entry)) (now (buffer .entry))) ⌝ }
+    ensures kept { λ _. ⌜ (now (text .exit) ≡ now (text .entry)) × (now (tag .exit) ≡ now (tag .entry)) ⌝ }
 {
     written(string_dv_dict::two_strings_to_one(text, tag, buffer))
 }
@@ -242,6 +246,7 @@ pub extern "C" fn namedict_pack(text: &[u8], tag: &[u8], buffer: &mut [u8]) -> N
 #[no_mangle]
 pub extern "C" fn namedict_unpack(packed: &[u8], buffer: &mut [u8]) -> NamedictUnpacked
     ensures { λ r. ⌜ (r ≡ unpackedNumbers (unpackAnswer (now (packed .entry)) (length (now (buffer .entry))))) × (now (buffer .exit) ≡ unpackBuffer (now (packed .entry)) (now (buffer .entry))) ⌝ }
+    ensures kept { λ _. ⌜ now (packed .exit) ≡ now (packed .entry) ⌝ }
 {
     match string_dv_dict::one_string_to_two(packed, buffer) {
         Unpacked::Lengths { text, tag } => NamedictUnpacked {
@@ -270,7 +275,7 @@ pub extern "C" fn namedict_open(
     block_width: u64,
     block_count: u64,
 ) -> u64
-    ensures { λ r. ⌜ ((x : OpenAnswer) × (r ≡ openNumber x) × OpenPost (record { p = «page_width»; n = «page_count»; e = «list_length»; w = «block_width»; b = «block_count» }) (now (pages .entry)) (now (lists .entry)) x (now (pages .entry)) (now (lists .exit))) ⌝ }
+    ensures { λ r. ⌜ ((x : OpenAnswer) × (r ≡ openNumber x) × OpenPost (record { p = «page_width»; n = «page_count»; e = «list_length»; w = «block_width»; b = «block_count» }) (now (pages .entry)) (now (lists .entry)) x (now (pages .exit)) (now (lists .exit))) ⌝ }
 {
     let answer = dictionary::open(
         pages,
@@ -297,6 +302,7 @@ pub extern "C" fn namedict_add<'a>(
     second: &'a [u8],
 ) -> NamedictNumbered
     ensures { λ r. ⌜ ((x : AddAnswer) × (r ≡ addNumbers x) × AddPost (now (pages .entry)) (now (lists .entry)) (entered kind (now (first .entry)) (now (second .entry))) x (now (pages .exit)) (now (lists .exit))) ⌝ }
+    ensures kept { λ _. ⌜ (now (first .exit) ≡ now (first .entry)) × (now (second .exit) ≡ now (second .entry)) ⌝ }
 {
     added(dictionary::add(pages, lists, kind as usize, first, second))
 }
@@ -310,7 +316,8 @@ pub extern "C" fn namedict_find<'a>(
     first: &'a [u8],
     second: &'a [u8],
 ) -> NamedictNumbered
-    ensures { λ r. ⌜ ((x : FindAnswer) × (r ≡ findNumbers x) × FindPost (now (pages .entry)) (now (lists .entry)) (entered kind (now (first .entry)) (now (second .entry))) x (now (pages .entry)) (now (lists .entry))) ⌝ }
+    ensures { λ r. ⌜ ((x : FindAnswer) × (r ≡ findNumbers x) × FindPost (now (pages .entry)) (now (lists .entry)) (entered kind (now (first .entry)) (now (second .entry))) x (now (pages .exit)) (now (lists .exit))) ⌝ }
+    ensures kept { λ _. ⌜ (now (first .exit) ≡ now (first .entry)) × (now (second .exit) ≡ now (second .entry)) ⌝ }
 {
     found(dictionary::find(pages, lists, kind as usize, first, second))
 }
@@ -323,7 +330,7 @@ pub extern "C" fn namedict_read(
     number: u64,
     buffer: &mut [u8],
 ) -> NamedictName
-    ensures { λ r. ⌜ ((x : ReadAnswer) × (r ≡ nameNumbers x) × ReadPost (now (pages .entry)) (now (lists .entry)) number (now (buffer .entry)) x (now (buffer .exit)) (now (pages .entry)) (now (lists .entry))) ⌝ }
+    ensures { λ r. ⌜ ((x : ReadAnswer) × (r ≡ nameNumbers x) × ReadPost (now (pages .entry)) (now (lists .entry)) number (now (buffer .entry)) x (now (buffer .exit)) (now (pages .exit)) (now (lists .exit))) ⌝ }
 {
     told(dictionary::read(pages, lists, GlobalId(number as usize), buffer))
 }
@@ -331,7 +338,7 @@ pub extern "C" fn namedict_read(
 // How many names of a kind there are.
 #[no_mangle]
 pub extern "C" fn namedict_count(pages: &[u8], lists: &[u8], kind: u64) -> NamedictCounted
-    ensures { λ r. ⌜ ((x : CountAnswer) × (r ≡ countNumbers x) × CountPost (now (pages .entry)) (now (lists .entry)) kind x (now (pages .entry)) (now (lists .entry))) ⌝ }
+    ensures { λ r. ⌜ ((x : CountAnswer) × (r ≡ countNumbers x) × CountPost (now (pages .entry)) (now (lists .entry)) kind x (now (pages .exit)) (now (lists .exit))) ⌝ }
 {
     counted(dictionary::count(pages, lists, kind as usize))
 }

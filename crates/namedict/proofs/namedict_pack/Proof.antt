@@ -1,5 +1,5 @@
 -- The numbers of a packing's answer, and its buffer. Assumes nothing.
-use mathlib.Core.Path.{ap, _∙_}
+use mathlib.Core.Path.{refl, ap, _∙_}
 use Rattle.namedict.specs.Numbers.{writtenNumbers}
 use borrow.Author.Needs.{needs}
 use Rattle.namedict.proofs.namedict_pack.Statement.{statement}
@@ -15,7 +15,7 @@ same-length : tie.Need-same-length
 same-length c = search needs
 
 returns : tie.Need-returns
-returns c = (c .written .ensures ∙ ap writtenNumbers (c .before .before .before .two-strings-to-one .ensures .0), c .before .before .before .two-strings-to-one .ensures .1)
+returns c = ((c .written .ensures ∙ ap writtenNumbers (c .before .before .before .two-strings-to-one .ensures .0), c .before .before .before .two-strings-to-one .ensures .1), (refl, refl))
 
 pub namedict-pack-spec : {M : Type 1} → statement M
 namedict-pack-spec =

@@ -1,5 +1,5 @@
 -- The numbers of a reading's answer. Assumes nothing.
-use mathlib.Core.Path.{sym, _∙_}
+use mathlib.Core.Path.{refl, sym, _∙_}
 use borrow.Author.Needs.{needs}
 use Rattle.namedict.proofs.namedict_read_fid.Statement.{statement}
 use Rattle.namedict.proofs.namedict_read_fid.Tie as tie
@@ -17,10 +17,10 @@ number-requires : tie.Need-number-requires
 number-requires c κs = search needs
 
 returns : tie.Need-returns
-returns c = rw (sym (c .before .before .before .read-frequent-id .ensures) ∙ c .before .value .given .1)
+returns c = (rw (sym (c .before .before .before .read-frequent-id .ensures) ∙ c .before .value .given .1), refl)
 
 returns-2 : tie.Need-returns-2
-returns-2 c = rw (sym (c .before .before .before .before .read-frequent-id .ensures) ∙ c .before .before .why .given .1, c .number .ensures)
+returns-2 c = (rw (sym (c .before .before .before .before .read-frequent-id .ensures) ∙ c .before .before .why .given .1, c .number .ensures), refl)
 
 pub namedict-read-fid-spec : {M : Type 1} → statement M
 namedict-read-fid-spec =

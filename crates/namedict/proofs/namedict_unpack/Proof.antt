@@ -1,5 +1,5 @@
 -- The numbers of an unpacking's answer, and its buffer. Assumes nothing.
-use mathlib.Core.Path.{sym, _∙_}
+use mathlib.Core.Path.{refl, sym, _∙_}
 use borrow.Author.Needs.{needs}
 use Rattle.namedict.proofs.namedict_unpack.Statement.{statement}
 use Rattle.namedict.proofs.namedict_unpack.Tie as tie
@@ -20,13 +20,13 @@ same-length : tie.Need-same-length
 same-length c = search needs
 
 returns : tie.Need-returns
-returns c = (rw (sym (c .before .before .before .before .before .one-string-to-two .ensures .0) ∙ c .before .text .given .1), c .before .before .before .before .before .one-string-to-two .ensures .1)
+returns c = ((rw (sym (c .before .before .before .before .before .one-string-to-two .ensures .0) ∙ c .before .text .given .1), c .before .before .before .before .before .one-string-to-two .ensures .1), refl)
 
 same-length-2 : tie.Need-same-length-2
 same-length-2 c = search needs
 
 returns-2 : tie.Need-returns-2
-returns-2 c = (rw (sym (c .before .before .before .before .before .before .one-string-to-two .ensures .0) ∙ c .before .before .why .given .1, c .number .ensures), c .before .before .before .before .before .before .one-string-to-two .ensures .1)
+returns-2 c = ((rw (sym (c .before .before .before .before .before .before .one-string-to-two .ensures .0) ∙ c .before .before .why .given .1, c .number .ensures), c .before .before .before .before .before .before .one-string-to-two .ensures .1), refl)
 
 pub namedict-unpack-spec : {M : Type 1} → statement M
 namedict-unpack-spec =
