@@ -1,56 +1,22 @@
--- The numbers tell an entry's answers apart: the answer comes back from them. Assumes nothing.
-use Prim.Native.Nat.{ℕ}
+-- The numbers of all eleven exported entries tell an entry's answers apart: the answer comes back from them. Assumes nothing.
 use mathlib.Core.Path.{_≡_, refl, ap}
-use mathlib.Core.Bool.{false, cond}
+use mathlib.Core.Bool.{Bool, true, false}
 use lib.Dec.{eqb}
+use Rattle.slices.specs.Bytes.{Bytes}
 use Rattle.refusals.specs.declared.Refusal.{Refusal}
 use Rattle.refusals.specs.declared.Refusal.the-variants.{BadSize, ShortMemory, Unopened, BadKind, TooLong, NotText, NoTag, ListFull, NoPage, NoBlock, ShortBuffer, HighNumber, CutForm}
 use Rattle.refusals.specs.Numbers.{numberOf}
+use Rattle.refusals.specs.declared.Written.{Written}
+use Rattle.refusals.specs.declared.Written.the-variants as W
+use Rattle.ranked_pair_dictionary.specs.declared.FrequentId.{FrequentId}
+use Rattle.ranked_pair_dictionary.specs.declared.FrequentId.the-variants as F
+use Rattle.ranked_pair_iri_dv_dict.specs.Split.{headFrom, headOf, lengthOf}
+use Rattle.ranked_pair_iri_dv_dict.proofs.Laws.{head-length}
+use Rattle.string_dv_dict.specs.declared.Unpacked.{Unpacked}
+use Rattle.string_dv_dict.specs.declared.Unpacked.the-variants as U
 use Rattle.model.specs.Answers.{OpenAnswer, AddAnswer, FindAnswer, ReadAnswer, CountAnswer}
-use Rattle.namedict.specs.declared.NamedictNumbered.{NamedictNumbered}
-use Rattle.namedict.specs.declared.NamedictName.{NamedictName}
-use Rattle.namedict.specs.declared.NamedictCounted.{NamedictCounted}
-use Rattle.namedict.specs.Numbers.{openNumber, addNumbers, findNumbers, nameNumbers, countNumbers}
-
--- ---- the answers, back from their numbers
-
-abbrev refusalOf : ℕ → Refusal
-refusalOf n =
-    cond (eqb n 1) BadSize
-    (cond (eqb n 2) ShortMemory
-    (cond (eqb n 3) Unopened
-    (cond (eqb n 4) BadKind
-    (cond (eqb n 5) TooLong
-    (cond (eqb n 6) NotText
-    (cond (eqb n 7) NoTag
-    (cond (eqb n 8) ListFull
-    (cond (eqb n 9) NoPage
-    (cond (eqb n 10) NoBlock
-    (cond (eqb n 11) ShortBuffer
-    (cond (eqb n 12) HighNumber CutForm)))))))))))
-
-abbrev openOf : ℕ → OpenAnswer
-openOf n = cond (eqb n 0) OpenAnswer.done (OpenAnswer.refused (refusalOf n))
-
-abbrev addOf : NamedictNumbered → AddAnswer
-addOf r =
-    cond (eqb (r .refusal) 0) (cond (eqb (r .word) 1) (AddAnswer.fresh (r .number)) (AddAnswer.known (r .number)))
-    (AddAnswer.refused (refusalOf (r .refusal)))
-
-abbrev findOf : NamedictNumbered → FindAnswer
-findOf r =
-    cond (eqb (r .refusal) 0) (cond (eqb (r .word) 2) (FindAnswer.known (r .number)) FindAnswer.absent)
-    (FindAnswer.refused (refusalOf (r .refusal)))
-
-abbrev readOf : NamedictName → ReadAnswer
-readOf r =
-    cond (eqb (r .refusal) 0) (cond (eqb (r .word) 4) (ReadAnswer.name (r .kind) (r .«first_len») (r .«second_len»)) ReadAnswer.absent)
-    (ReadAnswer.refused (refusalOf (r .refusal)))
-
-abbrev countOf : NamedictCounted → CountAnswer
-countOf r = cond (eqb (r .refusal) 0) (CountAnswer.count (r .count)) (CountAnswer.refused (refusalOf (r .refusal)))
-
--- ---- they come back
+use Rattle.namedict.specs.Numbers.{yesNo, writtenNumbers, valueNumbers, unpackedNumbers, openNumber, addNumbers, findNumbers, nameNumbers, countNumbers}
+use Rattle.namedict.specs.Answers.{refusalOf, yesOf, writtenOf, valueOf, unpackedOf, openOf, addOf, findOf, readOf, countOf}
 
 -- A refusal by its number, and no refusal has the number 0.
 refusal-back : (why : Refusal) → (refusalOf (numberOf why) ≡ why) × (eqb (numberOf why) 0 ≡ false)
@@ -67,6 +33,34 @@ refusal-back NoBlock = (refl, refl)
 refusal-back ShortBuffer = (refl, refl)
 refusal-back HighNumber = (refl, refl)
 refusal-back CutForm = (refl, refl)
+
+-- ---- the leaf rules
+
+-- The text check.
+pub yes-back : (x : Bool) → yesOf (yesNo x) ≡ x
+yes-back true = refl
+yes-back false = refl
+
+-- The split, of every IRI: a head has a byte at the least, so 0 is told for none only.
+pub head-back : (iri : Bytes) → headFrom (lengthOf (headOf iri)) ≡ headOf iri
+unfolding headOf
+head-back iri = ap headFrom (head-length iri)
+
+-- Writing a frequent id, and packing.
+pub written-back : (x : Written) → writtenOf (writtenNumbers x) ≡ x
+written-back (W.Length n) = refl
+written-back (W.Refused why) = rw (refusal-back why .1) (ap W.Refused (refusal-back why .0))
+
+-- Reading a frequent id.
+pub value-back : (x : FrequentId) → valueOf (valueNumbers x) ≡ x
+value-back (F.Value v n) = refl
+value-back (F.Refused why) = rw (refusal-back why .1) (ap F.Refused (refusal-back why .0))
+
+pub unpacked-back : (x : Unpacked) → unpackedOf (unpackedNumbers x) ≡ x
+unpacked-back (U.Lengths m n) = refl
+unpacked-back (U.Refused why) = rw (refusal-back why .1) (ap U.Refused (refusal-back why .0))
+
+-- ---- the dictionary
 
 pub open-back : (x : OpenAnswer) → openOf (openNumber x) ≡ x
 open-back OpenAnswer.done = refl

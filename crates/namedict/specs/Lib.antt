@@ -1,1 +1,4 @@
 pub mod Numbers
+pub mod Answers
+pub mod Returned
+pub mod Demand3

@@ -17,10 +17,9 @@ ghost use Rattle.ranked_pair_iri_dv_dict.specs.Split.{headOf, lengthOf};
 ghost use Rattle.ranked_pair_dictionary.specs.FrequentId.{writeAnswer, writeBuffer, readAnswer};
 ghost use Rattle.string_dv_dict.specs.Answers.{packAnswer, packBuffer, unpackAnswer, unpackBuffer};
 ghost use Rattle.model.specs.Names.{entered};
-ghost use Rattle.model.specs.Answers.{OpenAnswer, AddAnswer, FindAnswer, ReadAnswer, CountAnswer};
-ghost use Rattle.memory.specs.Promises.{OpenPost, AddPost, FindPost, ReadPost, CountPost};
 ghost use Rattle.dictionary.specs.Answers.{addedBy, foundBy, toldBy, countedBy};
-ghost use Rattle.namedict.specs.Numbers.{yesNo, writtenNumbers, valueNumbers, unpackedNumbers, openNumber, refusedNumbers, addNumbers, findNumbers, nameNumbers, countNumbers};
+ghost use Rattle.namedict.specs.Numbers.{yesNo, writtenNumbers, valueNumbers, unpackedNumbers, refusedNumbers, addNumbers, findNumbers, nameNumbers, countNumbers};
+ghost use Rattle.namedict.specs.Returned.{OpenReturned, AddReturned, FindReturned, ReadReturned, CountReturned};
 
 // Packing, writing a frequent id.
 #[repr(C)]
@@ -275,7 +274,7 @@ pub extern "C" fn namedict_open(
     block_width: u64,
     block_count: u64,
 ) -> u64
-    ensures { λ r. ⌜ ((x : OpenAnswer) × (r ≡ openNumber x) × OpenPost (record { p = «page_width»; n = «page_count»; e = «list_length»; w = «block_width»; b = «block_count» }) (now (pages .entry)) (now (lists .entry)) x (now (pages .exit)) (now (lists .exit))) ⌝ }
+    ensures { λ r. ⌜ OpenReturned (record { p = «page_width»; n = «page_count»; e = «list_length»; w = «block_width»; b = «block_count» }) (now (pages .entry)) (now (lists .entry)) r (now (pages .exit)) (now (lists .exit)) ⌝ }
 {
     let answer = dictionary::open(
         pages,
@@ -301,7 +300,7 @@ pub extern "C" fn namedict_add<'a>(
     first: &'a [u8],
     second: &'a [u8],
 ) -> NamedictNumbered
-    ensures { λ r. ⌜ ((x : AddAnswer) × (r ≡ addNumbers x) × AddPost (now (pages .entry)) (now (lists .entry)) (entered kind (now (first .entry)) (now (second .entry))) x (now (pages .exit)) (now (lists .exit))) ⌝ }
+    ensures { λ r. ⌜ AddReturned (now (pages .entry)) (now (lists .entry)) (entered kind (now (first .entry)) (now (second .entry))) r (now (pages .exit)) (now (lists .exit)) ⌝ }
     ensures kept { λ _. ⌜ (now (first .exit) ≡ now (first .entry)) × (now (second .exit) ≡ now (second .entry)) ⌝ }
 {
     added(dictionary::add(pages, lists, kind as usize, first, second))
@@ -316,7 +315,7 @@ pub extern "C" fn namedict_find<'a>(
     first: &'a [u8],
     second: &'a [u8],
 ) -> NamedictNumbered
-    ensures { λ r. ⌜ ((x : FindAnswer) × (r ≡ findNumbers x) × FindPost (now (pages .entry)) (now (lists .entry)) (entered kind (now (first .entry)) (now (second .entry))) x (now (pages .exit)) (now (lists .exit))) ⌝ }
+    ensures { λ r. ⌜ FindReturned (now (pages .entry)) (now (lists .entry)) (entered kind (now (first .entry)) (now (second .entry))) r (now (pages .exit)) (now (lists .exit)) ⌝ }
     ensures kept { λ _. ⌜ (now (first .exit) ≡ now (first .entry)) × (now (second .exit) ≡ now (second .entry)) ⌝ }
 {
     found(dictionary::find(pages, lists, kind as usize, first, second))
@@ -330,7 +329,7 @@ pub extern "C" fn namedict_read(
     number: u64,
     buffer: &mut [u8],
 ) -> NamedictName
-    ensures { λ r. ⌜ ((x : ReadAnswer) × (r ≡ nameNumbers x) × ReadPost (now (pages .entry)) (now (lists .entry)) number (now (buffer .entry)) x (now (buffer .exit)) (now (pages .exit)) (now (lists .exit))) ⌝ }
+    ensures { λ r. ⌜ ReadReturned (now (pages .entry)) (now (lists .entry)) number (now (buffer .entry)) r (now (buffer .exit)) (now (pages .exit)) (now (lists .exit)) ⌝ }
 {
     told(dictionary::read(pages, lists, GlobalId(number as usize), buffer))
 }
@@ -338,7 +337,7 @@ pub extern "C" fn namedict_read(
 // How many names of a kind there are.
 #[no_mangle]
 pub extern "C" fn namedict_count(pages: &[u8], lists: &[u8], kind: u64) -> NamedictCounted
-    ensures { λ r. ⌜ ((x : CountAnswer) × (r ≡ countNumbers x) × CountPost (now (pages .entry)) (now (lists .entry)) kind x (now (pages .exit)) (now (lists .exit))) ⌝ }
+    ensures { λ r. ⌜ CountReturned (now (pages .entry)) (now (lists .entry)) kind r (now (pages .exit)) (now (lists .exit)) ⌝ }
 {
     counted(dictionary::count(pages, lists, kind as usize))
 }

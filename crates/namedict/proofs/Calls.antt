@@ -1,0 +1,64 @@
+-- From the numbers that exported calls returned to the answers that they tell: the promises hold of these. Assumes nothing.
+use Prim.Native.Nat.{ℕ}
+use mathlib.Core.Path.{_≡_, sym, ap, subst, _∙_}
+use mathlib.Core.Logic.{inl, inr}
+use mathlib.Core.List.{List, [], _∷_, map}
+use Rattle.slices.specs.Bytes.{Bytes}
+use Rattle.layout.specs.declared.Sizes.{Sizes}
+use Rattle.memory.specs.Promises.{OpenPost, AddPost, FindPost, ReadPost, CountPost}
+use Rattle.memory.specs.Lists.{Memory, Called, Calls}
+use Rattle.namedict.specs.Numbers.{openNumber, addNumbers, findNumbers, nameNumbers, countNumbers}
+use Rattle.namedict.specs.Answers.{openOf, addOf, findOf, readOf, countOf}
+use Rattle.namedict.specs.Returned.{OpenReturned, Returned, add, find, read, count, Exported, ExportedCalls, eventOf}
+use Rattle.namedict.specs.Demand3.{CallAt}
+use Rattle.namedict.proofs.Tell.{open-back, add-back, find-back, read-back, count-back}
+
+-- ---- one answer: its numbers, the answer back from them, and what is promised of it
+
+module _ {A N : Type 0} (num : A → N) (of : N → A) (back : (x : A) → of (num x) ≡ x) (P : A → Type 0) (r : N) (c : (x : A) × (r ≡ num x) × P x) where
+  -- The numbers tell the answer.
+  told-answer : of r ≡ c .0
+  told-answer = ap of (c .1) ∙ back (c .0)
+
+  promised : P (of r)
+  promised = subst P (sym told-answer) (c .2)
+
+  -- The numbers are those of the answer that they tell.
+  exact : r ≡ num (of r)
+  exact = c .1 ∙ ap num (sym told-answer)
+
+-- ---- one call
+
+pub open-tells : (s : Sizes) (pages lists : Bytes) (r : ℕ) (pages′ lists′ : Bytes) → OpenReturned s pages lists r pages′ lists′
+    → OpenPost s pages lists (openOf r) pages′ lists′
+open-tells s pages lists r pages′ lists′ c = promised openNumber openOf open-back (λ x. OpenPost s pages lists x pages′ lists′) r c
+
+pub call-tells : (m m′ : Memory) (e : Returned) → Exported m e m′ → Called m (eventOf e) m′
+call-tells m m′ (add a r) c = promised addNumbers addOf add-back (λ x. AddPost (m .pages) (m .lists) a x (m′ .pages) (m′ .lists)) r c
+call-tells m m′ (find a r) c = promised findNumbers findOf find-back (λ x. FindPost (m .pages) (m .lists) a x (m′ .pages) (m′ .lists)) r c
+call-tells m m′ (read n x r y) c = promised nameNumbers readOf read-back (λ z. ReadPost (m .pages) (m .lists) n x z y (m′ .pages) (m′ .lists)) r c
+call-tells m m′ (count k r) c = promised countNumbers countOf count-back (λ x. CountPost (m .pages) (m .lists) k x (m′ .pages) (m′ .lists)) r c
+
+-- What a call returned is what its answer's numbers are.
+abbrev pub Exact : Returned → Type 0
+Exact (add a r) = r ≡ addNumbers (addOf r)
+Exact (find a r) = r ≡ findNumbers (findOf r)
+Exact (read n b r c) = r ≡ nameNumbers (readOf r)
+Exact (count k r) = r ≡ countNumbers (countOf r)
+
+exact-by : (m m′ : Memory) (e : Returned) → Exported m e m′ → Exact e
+exact-by m m′ (add a r) c = exact addNumbers addOf add-back _ r c
+exact-by m m′ (find a r) c = exact findNumbers findOf find-back _ r c
+exact-by m m′ (read n x r y) c = exact nameNumbers readOf read-back _ r c
+exact-by m m′ (count k r) c = exact countNumbers countOf count-back _ r c
+
+-- ---- lists
+
+pub calls-tell : (m z : Memory) (es : List Returned) → ExportedCalls m es z → Calls m (map eventOf es) z
+calls-tell m z [] c = c
+calls-tell m z (e ∷ es) c = (c .0, calls-tell m (c .0) es (c .1), call-tells (c .0) z e (c .2))
+
+pub exact-at : (m z : Memory) (e : Returned) (xs es : List Returned) → ExportedCalls m es z → CallAt e xs es → Exact e
+exact-at m z e xs [] c p = absurd p
+exact-at m z e xs (x ∷ es) c (inl p) = subst Exact (sym (p .0)) (exact-by (c .0) z x (c .2))
+exact-at m z e xs (x ∷ es) c (inr p) = exact-at m (c .0) e xs es (c .1) p
