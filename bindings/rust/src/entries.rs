@@ -30,6 +30,26 @@ pub struct Counted {
     pub count: u64,
 }
 
+#[repr(C)]
+pub struct Written {
+    pub refusal: u64,
+    pub length: u64,
+}
+
+#[repr(C)]
+pub struct Value {
+    pub refusal: u64,
+    pub value: u64,
+    pub length: u64,
+}
+
+#[repr(C)]
+pub struct Unpacked {
+    pub refusal: u64,
+    pub text_len: u64,
+    pub tag_len: u64,
+}
+
 // The values of a field `word`.
 pub const NONE: u64 = 0;
 pub const FRESH: u64 = 1;
@@ -55,6 +75,17 @@ extern "C" {
     fn namedict_count(
         pages: *const u8, pages_len: usize, lists: *const u8, lists_len: usize, kind: u64,
     ) -> Counted;
+    fn namedict_is_text(bytes: *const u8, bytes_len: usize) -> u64;
+    fn namedict_split_iri(iri: *const u8, iri_len: usize) -> u64;
+    fn namedict_write_fid(value: u64, buffer: *mut u8, buffer_len: usize) -> Written;
+    fn namedict_read_fid(bytes: *const u8, bytes_len: usize) -> Value;
+    fn namedict_pack(
+        text: *const u8, text_len: usize, tag: *const u8, tag_len: usize,
+        buffer: *mut u8, buffer_len: usize,
+    ) -> Written;
+    fn namedict_unpack(
+        packed: *const u8, packed_len: usize, buffer: *mut u8, buffer_len: usize,
+    ) -> Unpacked;
 }
 
 pub fn open(pages: &mut [u8], lists: &mut [u8], sizes: Sizes) -> u64 {
@@ -127,6 +158,46 @@ pub fn count(pages: &[u8], lists: &[u8], kind: u64) -> Counted {
             lists.as_ptr(),
             lists.len(),
             kind,
+        )
+    }
+}
+
+pub fn is_text(bytes: &[u8]) -> u64 {
+    unsafe { namedict_is_text(bytes.as_ptr(), bytes.len()) }
+}
+
+pub fn split_iri(iri: &[u8]) -> u64 {
+    unsafe { namedict_split_iri(iri.as_ptr(), iri.len()) }
+}
+
+pub fn write_fid(value: u64, buffer: &mut [u8]) -> Written {
+    unsafe { namedict_write_fid(value, buffer.as_mut_ptr(), buffer.len()) }
+}
+
+pub fn read_fid(bytes: &[u8]) -> Value {
+    unsafe { namedict_read_fid(bytes.as_ptr(), bytes.len()) }
+}
+
+pub fn pack(text: &[u8], tag: &[u8], buffer: &mut [u8]) -> Written {
+    unsafe {
+        namedict_pack(
+            text.as_ptr(),
+            text.len(),
+            tag.as_ptr(),
+            tag.len(),
+            buffer.as_mut_ptr(),
+            buffer.len(),
+        )
+    }
+}
+
+pub fn unpack(packed: &[u8], buffer: &mut [u8]) -> Unpacked {
+    unsafe {
+        namedict_unpack(
+            packed.as_ptr(),
+            packed.len(),
+            buffer.as_mut_ptr(),
+            buffer.len(),
         )
     }
 }

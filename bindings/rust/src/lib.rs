@@ -25,6 +25,8 @@
 //! assert_eq!(dictionary.count(Kind::Iri)?, 1);
 //! # Ok::<(), namedict::Refusal>(())
 //! ```
+//!
+//! The rules that need no dictionary stand in [`rules`].
 #![deny(unsafe_code)]
 #![warn(missing_docs)]
 
@@ -32,6 +34,7 @@
 mod entries;
 mod name;
 mod refusal;
+pub mod rules;
 mod sizes;
 
 pub use name::{Kind, Name};

@@ -13,7 +13,7 @@ pub enum Refusal {
     Unopened = 3,
     /// An IRI or a plain string with a second part.
     BadKind = 4,
-    /// A name over 4,000 bytes.
+    /// A name over 4,000 bytes, or a packed form over 8,002.
     TooLong = 5,
     /// A part is not UTF-8.
     NotText = 6,
@@ -23,15 +23,19 @@ pub enum Refusal {
     ListFull = 8,
     /// More pages are needed than are left.
     NoPage = 9,
-    /// No block of numbers is left.
+    /// The block rule picks a block of `block_count` or above. Lower blocks may be free.
     NoBlock = 10,
     /// The buffer is shorter than the answer.
     ShortBuffer = 11,
+    /// A frequent id for 2^30 or more.
+    HighNumber = 12,
+    /// A frequent id or a packed form that cannot be read.
+    CutForm = 13,
 }
 
 impl Refusal {
     /// The refusals and their words, by their numbers from 1.
-    const WORDS: [(Refusal, &'static str); 11] = [
+    const WORDS: [(Refusal, &'static str); 13] = [
         (Refusal::BadSize, "bad size"),
         (Refusal::ShortMemory, "short memory"),
         (Refusal::Unopened, "unopened"),
@@ -43,6 +47,8 @@ impl Refusal {
         (Refusal::NoPage, "no page"),
         (Refusal::NoBlock, "no block"),
         (Refusal::ShortBuffer, "short buffer"),
+        (Refusal::HighNumber, "high number"),
+        (Refusal::CutForm, "cut form"),
     ];
 
     /// The refusal that an entry's number says; 0 says none.

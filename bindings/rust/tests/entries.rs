@@ -1,4 +1,4 @@
-//! Every refusal that a caller of this crate can provoke, all kinds of names, and dictionaries in
+//! Every refusal that a dictionary of this crate can give, all kinds of names, and dictionaries in
 //! memory that is owned, lent, copied or no dictionary's.
 use namedict::{Added, Dictionary, Kind, Name, Refusal, Sizes};
 
@@ -234,6 +234,18 @@ fn refusal_10_no_block() {
 }
 
 #[test]
+fn refusal_10_with_lower_blocks_free() {
+    // The 65th IRI would take block 7; blocks 3, 5 and 6 are free.
+    let mut dictionary = opened(sizes(13, 6, 100, 4, 7));
+    let iris: Vec<String> = (0..65).map(|n| format!("http://p/{n}")).collect();
+    for iri in &iris[..64] {
+        dictionary.add(Name::iri(iri)).unwrap();
+    }
+    add_refused(&mut dictionary, Name::iri(&iris[64]), Refusal::NoBlock);
+    assert_eq!(dictionary.add(Name::plain("Ein")), Ok(Added::Fresh(48)));
+}
+
+#[test]
 fn refusal_11_short_buffer() {
     let dictionary = filled();
     let number = dictionary.find(NAMES[3]).unwrap().unwrap();
@@ -275,5 +287,6 @@ fn memory_may_be_lent() {
 #[test]
 fn refusals_say_their_words() {
     assert_eq!(Refusal::BadSize.to_string(), "bad size");
-    assert_eq!(Refusal::ShortBuffer.to_string(), "short buffer");
+    assert_eq!(Refusal::NoBlock.to_string(), "no block");
+    assert_eq!(Refusal::CutForm.to_string(), "cut form");
 }
