@@ -5,7 +5,7 @@
  *
  * The caller's duties, which nothing checks:
  * - a pointer and its length name memory that is there. With a length of 0 a
- *   pointer may be any address but null;
+ *   pointer may be any address but null: NAMEDICT_EMPTY is one;
  * - the slices given to one call never overlap;
  * - while a call runs, nothing else writes its slices, and nothing else reads
  *   those that it may write.
@@ -30,6 +30,11 @@ extern "C" {
 #define NAMEDICT_TAGGED 2 /* the text, its tag */
 #define NAMEDICT_TYPED  3 /* a head and a rest, as the caller gives them */
 
+/* The pointer of a slice with no bytes, where C callers would write NULL: an
+ * empty part of a name, or no bytes for a leaf rule. For a buffer of no bytes it
+ * is (uint8_t *)NAMEDICT_EMPTY, since nothing is written there. */
+#define NAMEDICT_EMPTY ((const uint8_t *)"")
+
 /* Refusals. */
 #define NAMEDICT_BAD_SIZE      1 /* a size is outside its range */
 #define NAMEDICT_SHORT_MEMORY  2 /* a slice lent to open is too short */
@@ -40,7 +45,7 @@ extern "C" {
 #define NAMEDICT_NO_TAG        7 /* kind 2 with an empty tag */
 #define NAMEDICT_LIST_FULL     8 /* a list that would gain an entry is full */
 #define NAMEDICT_NO_PAGE       9 /* more pages are needed than are left */
-#define NAMEDICT_NO_BLOCK     10 /* the block rule finds no free block; lower ones may be free */
+#define NAMEDICT_NO_BLOCK     10 /* the block rule picks a block of block_count or above; lower ones may be free */
 #define NAMEDICT_SHORT_BUFFER 11 /* the buffer is shorter than the answer */
 #define NAMEDICT_HIGH_NUMBER  12 /* a frequent id for 2^30 or more */
 #define NAMEDICT_CUT_FORM     13 /* a form that cannot be read */
@@ -73,12 +78,14 @@ uint64_t namedict_open(uint8_t *pages, size_t pages_len, uint8_t *lists, size_t 
                        uint64_t page_width, uint64_t page_count, uint64_t list_length,
                        uint64_t block_width, uint64_t block_count);
 
-/* Gives a name its number: fresh, or known already. Refusals 3 to 10. */
+/* Gives a name its number: fresh, or known already. An empty part may
+ * be NAMEDICT_EMPTY, 0 but not NULL, 0. Refusals 3 to 10. */
 namedict_numbered namedict_add(uint8_t *pages, size_t pages_len, uint8_t *lists, size_t lists_len,
                                uint64_t kind, const uint8_t *first, size_t first_len,
                                const uint8_t *second, size_t second_len);
 
-/* The number that a name has: known, or none. Refusals 3 to 7. */
+/* The number that a name has: known, or none. An empty part may
+ * be NAMEDICT_EMPTY, 0 but not NULL, 0. Refusals 3 to 7. */
 namedict_numbered namedict_find(const uint8_t *pages, size_t pages_len,
                                 const uint8_t *lists, size_t lists_len,
                                 uint64_t kind, const uint8_t *first, size_t first_len,
@@ -95,7 +102,7 @@ namedict_name namedict_read(const uint8_t *pages, size_t pages_len,
 namedict_counted namedict_count(const uint8_t *pages, size_t pages_len,
                                 const uint8_t *lists, size_t lists_len, uint64_t kind);
 
-/* ---- the leaf rules */
+/* ---- the leaf rules. No bytes may be NAMEDICT_EMPTY, 0 but not NULL, 0. */
 
 /* 1 if the bytes are UTF-8 by RFC 3629, else 0. */
 uint64_t namedict_is_text(const uint8_t *bytes, size_t bytes_len);

@@ -182,8 +182,8 @@ static int unopened(size_t pages_len, size_t lists_len)
 {
     const uint8_t *name = (const uint8_t *)"Ein";
     before = here;
-    return namedict_add(here.pages, pages_len, here.lists, lists_len, 1, name, 3, name, 0).refusal == NAMEDICT_UNOPENED
-        && namedict_find(here.pages, pages_len, here.lists, lists_len, 1, name, 3, name, 0).refusal == NAMEDICT_UNOPENED
+    return namedict_add(here.pages, pages_len, here.lists, lists_len, 1, name, 3, NAMEDICT_EMPTY, 0).refusal == NAMEDICT_UNOPENED
+        && namedict_find(here.pages, pages_len, here.lists, lists_len, 1, name, 3, NAMEDICT_EMPTY, 0).refusal == NAMEDICT_UNOPENED
         && namedict_read(here.pages, pages_len, here.lists, lists_len, 0, buffer, 3).refusal == NAMEDICT_UNOPENED
         && namedict_count(here.pages, pages_len, here.lists, lists_len, 1).refusal == NAMEDICT_UNOPENED
         && memcmp(&here, &before, sizeof here) == 0;
@@ -229,9 +229,30 @@ static void test_leaf_rules(void)
     CHECK(namedict_unpack(form, 2, buffer, sizeof buffer).refusal == NAMEDICT_CUT_FORM);
     CHECK(namedict_unpack(form, 6, buffer, 4).refusal == NAMEDICT_SHORT_BUFFER);
     CHECK(namedict_unpack(form, sizeof form, buffer, sizeof buffer).refusal == NAMEDICT_TOO_LONG);
-    CHECK(namedict_pack(text, 3, tag, 0, form, sizeof form).refusal == NAMEDICT_NO_TAG);
+    CHECK(namedict_pack(text, 3, NAMEDICT_EMPTY, 0, form, sizeof form).refusal == NAMEDICT_NO_TAG);
     CHECK(namedict_pack(text, 3, tag, 2, form, 5).refusal == NAMEDICT_SHORT_BUFFER);
     CHECK(namedict_pack((const uint8_t *)"\xFF", 1, tag, 2, form, sizeof form).refusal == NAMEDICT_NOT_TEXT);
+}
+
+/* Slices with no bytes, in every place where one may stand. */
+static void test_empty(void)
+{
+    static uint8_t form[2];
+    uint8_t *no_buffer = (uint8_t *)NAMEDICT_EMPTY;
+    CHECK(namedict_open(no_buffer, 0, no_buffer, 0, 13, 6, 100, 4, 8) == NAMEDICT_SHORT_MEMORY);
+    open_here(6, 100, 8);
+    CHECK(is(add_bytes(&here, NAMEDICT_TYPED, NAMEDICT_EMPTY, 0, NAMEDICT_EMPTY, 0), 0, NAMEDICT_FRESH, 0));
+    CHECK(is(find(&here, NAMEDICT_TYPED, "", ""), 0, NAMEDICT_KNOWN, 0));
+    CHECK(namedict_find(here.pages, sizeof here.pages, here.lists, sizeof here.lists, NAMEDICT_IRI,
+                        NAMEDICT_EMPTY, 0, NAMEDICT_EMPTY, 0).word == NAMEDICT_NONE);
+    CHECK(namedict_read(here.pages, sizeof here.pages, here.lists, sizeof here.lists, 0, no_buffer, 0).word == NAMEDICT_NAME);
+
+    CHECK(namedict_is_text(NAMEDICT_EMPTY, 0) == 1 && namedict_split_iri(NAMEDICT_EMPTY, 0) == 0);
+    CHECK(namedict_write_fid(0, no_buffer, 0).refusal == NAMEDICT_SHORT_BUFFER);
+    CHECK(namedict_read_fid(NAMEDICT_EMPTY, 0).refusal == NAMEDICT_CUT_FORM);
+    CHECK(namedict_pack(NAMEDICT_EMPTY, 0, (const uint8_t *)"a", 1, form, sizeof form).length == 2);
+    CHECK(namedict_unpack(form, 2, no_buffer, 0).refusal == NAMEDICT_SHORT_BUFFER);
+    CHECK(namedict_unpack(NAMEDICT_EMPTY, 0, buffer, sizeof buffer).refusal == NAMEDICT_CUT_FORM);
 }
 
 int main(void)
@@ -243,5 +264,6 @@ int main(void)
     test_full();
     test_memory();
     test_leaf_rules();
+    test_empty();
     return failed;
 }

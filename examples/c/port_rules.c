@@ -21,12 +21,14 @@ typedef struct {
 
 static port_rule rules[2];
 
-/* Puts a name's number into a rule. Answers the refusal, 0 for none. */
+/* Puts a name's number into a rule; second is NULL where the kind has no second part.
+ * Answers the refusal, 0 for none. */
 static uint64_t put(uint64_t *place, uint64_t kind, const char *first, const char *second)
 {
+    const uint8_t *second_bytes = second == NULL ? NAMEDICT_EMPTY : (const uint8_t *)second;
     namedict_numbered a = namedict_add(pages, sizeof pages, lists, sizeof lists, kind,
                                        (const uint8_t *)first, strlen(first),
-                                       (const uint8_t *)second, strlen(second));
+                                       second_bytes, second == NULL ? 0 : strlen(second));
     if (a.refusal == 0)
         *place = a.number;
     return a.refusal;
@@ -35,7 +37,7 @@ static uint64_t put(uint64_t *place, uint64_t kind, const char *first, const cha
 static uint64_t set_rule(port_rule *rule, const char *asset, const char *label, const char *limit)
 {
     port_rule made;
-    uint64_t refusal = put(&made.asset, NAMEDICT_IRI, asset, "");
+    uint64_t refusal = put(&made.asset, NAMEDICT_IRI, asset, NULL);
     if (refusal == 0)
         refusal = put(&made.label, NAMEDICT_TAGGED, label, "de");
     if (refusal == 0)
