@@ -14,8 +14,8 @@ use Rattle.layout.specs.declared.Sizes.{Sizes}
 use Rattle.layout.specs.Sizes.{pageSize}
 use Rattle.layout.specs.Fields.{pageOf, offsetOf, sizeOf, placeWord, namedBy, topOf}
 use Rattle.bytes_index.specs.Place.{place}
-use Rattle.bytes_index.specs.Entries.{Entries, used, Stands, Met, Holds, Misses}
-use Rattle.bytes_index.proofs.Place.{place-onto}
+use Rattle.bytes_index.specs.Entries.{Entries, used, Stands, Met, FreeAt, Holds, Misses}
+use Rattle.bytes_index.proofs.Place.{place-lt, place-onto}
 use Rattle.bytes_index.proofs.Filled.{filled-le, filled-all}
 
 -- An entry word stands for one byte string.
@@ -54,6 +54,14 @@ passed s B W Q key m h t j q p r z n =
     let f : q ≡ Q (place m h t) = rw p r in
     subst (Passed s B W key) f (z, n)
 
+-- What the code read of a place with the key's top bits: the search meets the entry that it names.
+pub meets : (s : Sizes) (B W Q : ℕ → ℕ) (key : Bytes) (m t j q : ℕ) → t < m → place m (fnvOf key) t ≡ j → q ≡ Q j
+    → topOf q ≡ topOf (fnvOf key) → namedBy q ≢ 0 → ((k : ℕ) → k < t → Passed s B W key (Q (place m (fnvOf key) k))) → Met Q m (fnvOf key) (namedBy q - 1)
+meets s B W Q key m t j q l p r e z f = record { step = t; near = l; there = ap Q p ∙ sym r ∙ go (fnvOf key / 2097152) e; full = λ k g. f k g .0 }
+  where
+    go : (x : ℕ) → q / 2097152 ≡ x → q ≡ q % 2097152 - 1 + 1 + 2097152 * x
+    go x d = omega (arith, z)
+
 module _ (s : Sizes) (B W Q : ℕ → ℕ) (es : Entries) (H : Holds s B W Q es) (few : s .e ≤ 1048576) where
   -- A filled place names an entry in use, whose word stands for it.
   pub record Named (j : ℕ) : Type 0 where
@@ -77,11 +85,13 @@ module _ (s : Sizes) (B W Q : ℕ → ℕ) (es : Entries) (H : Holds s B W Q es)
         stands = subst (λ (x : ℕ). Stands s B (W x) (k .1)) i (e .1);
       }
 
-  pub hit : (j : ℕ) (key : Bytes) → j < 2 * s .e → Q j ≢ 0 → Stands s B (W (namedBy (Q j) - 1)) key → es (namedBy (Q j) - 1) ≡ some key
-  hit j key l z t =
-      let k = named j l z in
-      let e : k .key ≡ key = stands-once s B (W (namedBy (Q j) - 1)) (k .key) key (k .stands) t in
-      k .in-use ∙ ap some e
+  -- The entry that a search meets, if its bytes are the key.
+  pub hit : (i : ℕ) (key : Bytes) → i < s .e → Met Q (2 * s .e) (fnvOf key) i → Stands s B (W i) key → es i ≡ some key
+  hit i key l M t =
+      let k = named (place (2 * s .e) (fnvOf key) (M .step)) (place-lt (2 * s .e) (fnvOf key) (M .step) (omega arith)) (λ z. omega (arith, M .there, z)) in
+      let n : namedBy (Q (place (2 * s .e) (fnvOf key) (M .step))) - 1 ≡ i = omega (arith, ap namedBy (M .there), place-named i (fnvOf key) (omega arith)) in
+      let e : k .key ≡ key = stands-once s B (W i) (k .key) key (subst (λ (x : ℕ). Stands s B (W x) (k .key)) n (k .stands)) t in
+      sym (ap es n) ∙ k .in-use ∙ ap some e
 
   -- A filled place names an entry, and none past the last.
   pub never-nothing : (j : ℕ) → j < 2 * s .e → Q j ≢ 0 → namedBy (Q j) ≡ 0 → ⊥
@@ -106,15 +116,15 @@ module _ (s : Sizes) (B W Q : ℕ → ℕ) (es : Entries) (H : Holds s B W Q es)
       )
 
   -- The first empty place, with no entry that is the key before it: there is none anywhere.
-  pub missed : (key : Bytes) (t j : ℕ) → t < 2 * s .e → place (2 * s .e) (fnvOf key) t ≡ j → Q j ≡ 0
-      → ((k : ℕ) → k < t → Passed s B W key (Q (place (2 * s .e) (fnvOf key) k))) → Misses s Q es key j
-  missed key t j l e z p = record { absent = none-is; free = record { step = t; near = l; here = e; empty = z; full = λ k g. p k g .0 } }
+  pub missed : (key : Bytes) (j : ℕ) → (F : FreeAt Q (2 * s .e) (fnvOf key) j)
+      → ((k : ℕ) → k < F .step → Passed s B W key (Q (place (2 * s .e) (fnvOf key) k))) → Misses s Q es key j
+  missed key j F p = record { absent = none-is; free = F }
     where
-      z′ : Q (place (2 * s .e) (fnvOf key) t) ≡ 0
-      z′ = rw e z
+      z : Q (place (2 * s .e) (fnvOf key) (F .step)) ≡ 0
+      z = ap Q (F .here) ∙ F .empty
 
       none-is : (i : ℕ) → es i ≡ some key → ⊥
-      none-is i q = go (decLt (M .step) t) (decLt t (M .step))
+      none-is i q = go (decLt (M .step) (F .step)) (decLt (F .step) (M .step))
         where
           M : Met Q (2 * s .e) (fnvOf key) i
           M = H .met i key q
@@ -125,13 +135,13 @@ module _ (s : Sizes) (B W Q : ℕ → ℕ) (es : Entries) (H : Holds s B W Q es)
           low : i < 1048576
           low = omega (arith, H .entry i key q .0)
 
-          go : Dec (M .step < t) → Dec (t < M .step) → ⊥
+          go : Dec (M .step < F .step) → Dec (F .step < M .step) → ⊥
           go (yes a) b =
               let f : i ≡ namedBy (Q (place (2 * s .e) (fnvOf key) (M .step))) - 1 = omega (arith, ap namedBy (M .there), place-named i (fnvOf key) low) in
               p (M .step) a .1 (ap topOf (M .there) ∙ place-top i (fnvOf key) low) (subst (λ (x : ℕ). Stands s B (W x) key) f S)
-          go (no a) (yes b) = M .full t b z′
+          go (no a) (yes b) = M .full (F .step) b z
           go (no a) (no b) =
-              let f : M .step ≡ t = omega arith in
-              let c : Q (place (2 * s .e) (fnvOf key) t) ≡ placeWord i (fnvOf key) =
+              let f : M .step ≡ F .step = omega arith in
+              let c : Q (place (2 * s .e) (fnvOf key) (F .step)) ≡ placeWord i (fnvOf key) =
               subst (λ (x : ℕ). Q (place (2 * s .e) (fnvOf key) x) ≡ placeWord i (fnvOf key)) f (M .there) in
-              omega (arith, z′)
+              omega (arith, z)

@@ -13,11 +13,12 @@ use Rattle.slices.specs.Bytes.{Bytes, sameBytes}
 use Rattle.slices.proofs.Bytes.{bytes-true, bytes-same}
 use Rattle.slices.proofs.Tests.{Split, split, and-left, and-right, clash}
 use Rattle.layout.specs.declared.Sizes.{Sizes}
-use Rattle.layout.specs.Sizes.{pageSize}
+use Rattle.layout.specs.Sizes.{pageSize, pageBytes}
 use Rattle.layout.specs.Fields.{pageOf, offsetOf, sizeOf}
+use Rattle.bytes_index.specs.declared.Span.{Span}
 use Rattle.bytes_index.specs.declared.Span.the-variants.{At, Bad}
 use Rattle.bytes_index.specs.Entries.{addressOf, Stands}
-use Rattle.bytes_index.specs.Field.{entryField}
+use Rattle.bytes_index.specs.Field.{entryField, Inside, Located}
 use Rattle.bytes_index.specs.Search.{frontIs, Agree}
 
 -- ---- an entry's word
@@ -60,6 +61,11 @@ field-bad s w h = go (split (ltb (pageOf w) (s .n) && leb (offsetOf w + sizeOf w
         absurd (h (ltb-true (pageOf w) (s .n) (and-left (ltb (pageOf w) (s .n)) _ p))
         (leb-true (offsetOf w + sizeOf w) (pageSize s) (and-right (ltb (pageOf w) (s .n)) _ p)))
     go (inr p) = rw p
+
+-- An entry that was read: what its word says, inside the pages.
+pub located : (s : Sizes) (pages : Bytes) (w at len : ℕ) (r : Span) → pageBytes s ≤ length pages → Located s w r → r ≡ At at len
+    → (entryField s w ≡ At at len) × (at + len ≤ length pages)
+located s pages w at len r l L e = (sym (L .field) ∙ e, omega (arith, subst (Inside s) e (L .inside)))
 
 -- ---- the part of the pages
 

@@ -8,12 +8,13 @@ use lib.Dec.{eqb}
 use lib.ListN.{length, getD, take}
 use Rattle.slices.specs.Bytes.{Bytes, sameBytes}
 use Rattle.words.specs.Words.{wordAt, quadAt}
+use Rattle.fnv.specs.Fnv.{fnvOf}
 use Rattle.parts.specs.declared.Mode.{Mode}
 use Rattle.parts.specs.Parts.{bytesOf}
 use Rattle.layout.specs.declared.Sizes.{Sizes}
 use Rattle.layout.specs.Sizes.{InRange, dictionaries, pageBytes, listBytes}
 use Rattle.layout.specs.Fields.{entryAt, placeAt}
-use Rattle.bytes_index.specs.Entries.{Entries, Holds, Misses}
+use Rattle.bytes_index.specs.Entries.{Entries, Stands, Met, FreeAt, Holds, Misses}
 use Rattle.bytes_index.specs.declared.Probe.{Probe}
 use Rattle.bytes_index.specs.declared.Probe.the-variants.{At, Free, Bad}
 
@@ -58,6 +59,15 @@ Ranged s (At i) = i < s .e
 Ranged s (Free j) = j < 2 * s .e
 Ranged s Bad = Unit {0}
 
+-- Where the search went, whatever the memory holds. "The search starts at FNV-1a of the stored bytes ... modulo 2 × E. It goes up one place,
+-- wrapping to 0, comparing byte by byte, until an equal entry or an empty place ends it."
+abbrev pub Went : Sizes → ℕ → Bytes → Bytes → Bytes → Probe → Type 0
+Went s d pages lists key (At i) =
+    Met (λ j. quadAt lists (placeAt s d j)) (2 * s .e) (fnvOf key) i × Stands s (λ a. getD pages a 0) (wordAt lists (entryAt s d i)) key
+Went s d pages lists key (Free j) = FreeAt (λ k. quadAt lists (placeAt s d k)) (2 * s .e) (fnvOf key) j
+Went s d pages lists key Bad = Unit {0}
+
 pub record Searched (s : Sizes) (d : ℕ) (pages lists key : Bytes) (r : Probe) : Type 0 where
   pub range : Ranged s r
+  pub went : Went s d pages lists key r
   pub right : (es : Entries) → Held s d pages lists es → Answer s d lists es key r

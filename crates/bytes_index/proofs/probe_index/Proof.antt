@@ -2,7 +2,6 @@
 -- equal. Assumes nothing.
 use mathlib.Core.Path.{_≡_, refl, sym, _∙_, ap, subst}
 use mathlib.Core.Logic.{⊎-elim}
-use mathlib.Core.Option.{some}
 use Prim.Native.Nat.{ℕ, _+_, _-_, _*_, _%_, _≤_, _<_}
 use denote.Enum.Declared.{tagOf}
 use borrow.Author.Needs.{needs}
@@ -22,13 +21,13 @@ use Rattle.layout.proofs.Ranges.{page-bytes}
 use Rattle.bytes_index.specs.declared.Span.{Span}
 use Rattle.bytes_index.specs.declared.Span.the-variants.{At, Bad}
 use Rattle.bytes_index.specs.Place.{place}
-use Rattle.bytes_index.specs.Entries.{Stands}
+use Rattle.bytes_index.specs.Entries.{Stands, Met, FreeAt}
 use Rattle.bytes_index.specs.Field.{entryField, Inside}
 use Rattle.bytes_index.specs.Search.{keyOf, Agree}
 use Rattle.bytes_index.proofs.Span.{the-type}
 use Rattle.bytes_index.proofs.Place.{place-zero, place-next}
-use Rattle.bytes_index.proofs.Index.{Passed, passed, hit, never-nothing, never-past, never-out, never-full, missed}
-use Rattle.bytes_index.proofs.Stored.{field-in, front-sized, not-front, not-all, all-bytes}
+use Rattle.bytes_index.proofs.Index.{Passed, passed, meets, hit, never-nothing, never-past, never-out, never-full, missed}
+use Rattle.bytes_index.proofs.Stored.{field-in, located, front-sized, not-front, not-all, all-bytes}
 use Rattle.bytes_index.proofs.probe_index.Statement.{statement}
 use Rattle.bytes_index.proofs.probe_index.Tie as tie
 
@@ -80,12 +79,6 @@ quad c =
     ∙ ap (λ (x : ℕ). quadAt (a .lists .now) (2 * (x + 2 * a .s .e) + c .before .before .probe .j)) (c .before .before .before .before .before .before .dict-at .ensures)
 
 -- The entry, and where its bytes lie.
-field : (c : tie.After-known-told Inv-loop μ-loop Inv-probe μ-probe)
-    → let a = entered (turn c) .args in
-    entryField (a .s) (W (a .lists .now) (a .s) (a .d) (namedBy (c .before .before .before .before .before .before .before .before .quad-at .result) - 1))
-    ≡ At (c .before .at .given .0 .0) (c .before .at .given .0 .1 .0)
-field c = sym (c .before .before .before .entry .ensures .field) ∙ c .before .at .given .1
-
 inside : (c : tie.After-known-told Inv-loop μ-loop Inv-probe μ-probe) → c .before .at .given .0 .0 + c .before .at .given .0 .1 .0 ≤ pageBytes (entered (turn c) .args .s)
 inside c = subst (Inside (entered (turn c) .args .s)) (c .before .at .given .1) (c .before .before .before .entry .ensures .inside)
 
@@ -118,10 +111,10 @@ more a b n P h p k l u = go (decLt b k)
     go (no g) = p k l (omega arith)
 
 -- The hash's top bits, as they were taken before the loop.
-same-top : (c : tie.After-up Inv-loop μ-loop Inv-probe μ-probe) →
-    let a = entered (c .before .before .before .before .before) .args in
-    c .before .before .before .before .before .before .before .top-bits .result ≡ topOf (fnvOf (keyOf (a .mode) (a .front .now) (a .rest .now)))
-same-top c = c .before .before .before .before .before .before .before .top-bits .ensures .0 ∙ ap topOf (entered (c .before .before .before .before .before) .pre .1)
+same-top : (c : tie.At-probe Inv-loop μ-loop Inv-probe μ-probe)
+    → let a = entered c .args in
+    c .before .before .top-bits .result ≡ topOf (fnvOf (keyOf (a .mode) (a .front .now) (a .rest .now)))
+same-top c = c .before .before .top-bits .ensures .0 ∙ ap topOf (entered c .pre .1)
 
 -- ---- the needs
 
@@ -161,6 +154,7 @@ returns c =
     let a = z .args in
     record {
       range = tt;
+      went = tt;
       right = λ es H.
           never-full (a .s) (B (a .pages .now)) (W (a .lists .now) (a .s) (a .d)) (Q (a .lists .now) (a .s) (a .d)) es H (z .pre .0 .ranged .e .1) (z .pre .0 .ranged .e .0) _
           (λ k l. c .before .probe .inv .3 k (omega arith) .0);
@@ -178,14 +172,16 @@ quad-at-requires c κs =
 
 returns-2 : tie.Need-returns-2 Inv-loop μ-loop Inv-probe μ-probe
 returns-2 c =
-    let a = entered (c .before .before .before) .args in
+    let z = entered (c .before .before .before) in
+    let a = z .args in
     let p = c .before .before .before .probe in
+    let q = Q (a .lists .now) (a .s) (a .d) in
+    let f : FreeAt q (2 * a .s .e) (fnvOf (keyOf (a .mode) (a .front .now) (a .rest .now))) (p .j) =
+    record { step = p .t; near = omega arith; here = p .inv .2; empty = sym (quad (c .before)) ∙ c .if2 .taken; full = λ k l. p .inv .3 k l .0 } in
     record {
       range = omega arith;
-      right = λ es H.
-          missed (a .s) (B (a .pages .now)) (W (a .lists .now) (a .s) (a .d)) (Q (a .lists .now) (a .s) (a .d)) es H (entered (c .before .before .before) .pre .0 .ranged .e .1) _ (p .t) (p .j) (omega arith) (p .inv .2)
-          (sym (quad (c .before)) ∙ c .if2 .taken)
-          (p .inv .3);
+      went = f;
+      right = λ es H. missed (a .s) (B (a .pages .now)) (W (a .lists .now) (a .s) (a .d)) q es H (z .pre .0 .ranged .e .1) _ (p .j) f (p .inv .3);
     }
 
 returns-3 : tie.Need-returns-3 Inv-loop μ-loop Inv-probe μ-probe
@@ -195,6 +191,7 @@ returns-3 c =
     let q = quad (c .before .before .before) in
     record {
       range = tt;
+      went = tt;
       right = λ es H.
           never-nothing (a .s) (B (a .pages .now)) (W (a .lists .now) (a .s) (a .d)) (Q (a .lists .now) (a .s) (a .d)) es H (z .pre .0 .ranged .e .1)
           (c .before .before .before .before .before .probe .j) (omega arith) (λ y. c .before .before .if2 .left (q ∙ y)) (ap namedBy (sym q) ∙ c .if4 .taken);
@@ -207,6 +204,7 @@ returns-4 c =
     let q = quad (c .before .before .before .before) in
     record {
       range = tt;
+      went = tt;
       right = λ es H.
           never-past (a .s) (B (a .pages .now)) (W (a .lists .now) (a .s) (a .d)) (Q (a .lists .now) (a .s) (a .d)) es H (z .pre .0 .ranged .e .1)
           (c .before .before .before .before .before .before .probe .j) (omega arith) (λ y. c .before .before .before .if2 .left (q ∙ y)) (subst (λ (x : ℕ). a .s .e < namedBy x) q (c .if5 .taken));
@@ -232,6 +230,7 @@ returns-5 c =
     let w = W (a .lists .now) (a .s) (a .d) in
     record {
       range = tt;
+      went = tt;
       right = λ es H.
           let o =
           never-out (a .s) (B (a .pages .now)) w (Q (a .lists .now) (a .s) (a .d)) es H (z .pre .0 .ranged .e .1)
@@ -288,42 +287,22 @@ probe-less c = omega arith
 probe-again : tie.Need-probe-again Inv-loop μ-loop Inv-probe μ-probe
 probe-again c =
     let g = c .before .before in
-    let z = entered (c .before .before .before .before .before) in
+    let q = g .before in
+    let p = q .before .before .probe in
+    let z = entered (q .before .before) in
     let a = z .args in
-    let p = c .before .before .before .before .before .probe in
-    let q = c .before .before .before in
     let key = keyOf (a .mode) (a .front .now) (a .rest .now) in
     let w = W (a .lists .now) (a .s) (a .d) in
     let n : topOf (q .quad-at .result) ≡ topOf (fnvOf key) → Stands (a .s) (B (a .pages .now)) (w (namedBy (q .quad-at .result) - 1)) key → ⊥ =
     ⊎-elim
     (λ x e.
-    let k : tie.After-known-told Inv-loop μ-loop Inv-probe μ-probe =
-    record {
-      before = record {
-        before = record {
-          before = record { before = record { before = record { before = record { before = g; if3 = x .0 }; if4 = x .1 }; if5 = x .2 }; entry = x .3 };
-          match = x .4;
-        };
-        at = x .5;
-      };
-      known-told = x .6;
-    } in
-    not-all _ _ _ _ _ _ _ _ refl (field k) (ends k) (sym (x .8 .ensures) ∙ x .9 .taken) (x .12 .ensures .differ (x .13 .taken)))
+    let l = located _ (a .pages .now) _ _ _ _ (z .pre .0 .pages-fit) (x .3 .ensures) (x .5 .given .1) in
+    not-all _ _ _ _ _ _ _ _ refl (l .0) (l .1) (sym (x .8 .ensures) ∙ x .9 .taken) (x .12 .ensures .differ (x .13 .taken)))
     (⊎-elim
     (λ x e.
-    let k : tie.After-known-told Inv-loop μ-loop Inv-probe μ-probe =
-    record {
-      before = record {
-        before = record {
-          before = record { before = record { before = record { before = record { before = g; if3 = x .0 }; if4 = x .1 }; if5 = x .2 }; entry = x .3 };
-          match = x .4;
-        };
-        at = x .5;
-      };
-      known-told = x .6;
-    } in
-    not-front _ _ _ _ _ _ _ _ refl (field k) (ends k) (sym (x .8 .ensures) ∙ x .9 .left))
-    (λ x e. absurd (x .0 .left (e ∙ sym (same-top c)))))
+    let l = located _ (a .pages .now) _ _ _ _ (z .pre .0 .pages-fit) (x .3 .ensures) (x .5 .given .1) in
+    not-front _ _ _ _ _ _ _ _ refl (l .0) (l .1) (sym (x .8 .ensures) ∙ x .9 .left))
+    (λ x e. absurd (omega (arith, x .0 .left, e, same-top (q .before .before)))))
     (c .before .if3 .came) in (
       omega arith,
       rw (c .up .ensures) (mod-lt (p .j + 1) (omega arith)),
@@ -339,22 +318,27 @@ sub-t24 c = omega arith
 returns-6 : tie.Need-returns-6 Inv-loop μ-loop Inv-probe μ-probe
 returns-6 c =
     let k = c .before .before .before .before .before in
+    let e = k .before .before .before .before in
+    let g = e .before .before in
+    let r = g .before .before in
+    let p = turn k .probe in
     let z = entered (turn k) in
     let a = z .args in
-    let q = quad (c .before .before .before .before .before .before .before .before .before .before .before .before .before) in
     let key = keyOf (a .mode) (a .front .now) (a .rest .now) in
     let b = B (a .pages .now) in
     let w = W (a .lists .now) (a .s) (a .d) in
-    let t : Stands (a .s) b (w (namedBy (c .before .before .before .before .before .before .before .before .before .before .before .before .before .quad-at .result) - 1)) key =
-    all-bytes _ _ _ _ _ _ _ _ refl (field k) (ends k) (sym (c .before .before .before .front-is .ensures) ∙ c .before .before .if6 .taken)
-    (λ i y l. c .before .loop .inv .1 i (omega arith) (omega arith)) in
+    let q = Q (a .lists .now) (a .s) (a .d) in
+    let l = located _ (a .pages .now) _ _ _ _ (z .pre .0 .pages-fit) (k .before .before .before .entry .ensures) (k .before .at .given .1) in
+    let i = namedBy (r .quad-at .result) - 1 in
+    let M : Met q (2 * a .s .e) (fnvOf key) i =
+    meets (a .s) b w q key (2 * a .s .e) (p .t) (p .j) (r .quad-at .result) (omega arith) (p .inv .2) (quad r) (g .if3 .taken ∙ same-top (turn k)) (e .before .if4 .left) (p .inv .3) in
+    let S : Stands (a .s) b (w i) key =
+    all-bytes _ _ _ _ _ _ _ _ refl (l .0) (l .1) (sym (c .before .before .before .front-is .ensures) ∙ c .before .before .if6 .taken)
+    (λ j y u. c .before .loop .inv .1 j (omega arith) (omega arith)) in
     record {
       range = omega arith;
-      right = λ es H.
-          subst (λ (x : ℕ). es (namedBy x - 1) ≡ some key) (sym q)
-          (hit (a .s) b w (Q (a .lists .now) (a .s) (a .d)) es H (z .pre .0 .ranged .e .1) (turn k .probe .j) key (turn k .probe .inv .1)
-          (λ y. c .before .before .before .before .before .before .before .before .before .before .before .before .if2 .left (q ∙ y))
-          (subst (λ (x : ℕ). Stands (a .s) b (w (namedBy x - 1)) key) q t));
+      went = (M, S);
+      right = λ es H. hit (a .s) b w q es H (z .pre .0 .ranged .e .1) i key (omega arith) M S;
     }
 
 pub probe-index-spec : {M : Type 1} → statement M
