@@ -8,14 +8,14 @@ use Rattle.ranked_pair_dictionary.specs.FrequentId.{furtherBytes, frequentId, f
 use Rattle.string_dv_dict.specs.Packed.{packed, pairRefusal}
 use Rattle.string_dv_dict.specs.Answers.{packAnswer, packBuffer}
 use Rattle.bytes_buffer.specs.Pages.{fits, grown, grownAt, allPages}
+use Rattle.meta_dv_dict.specs.Rule.{blockRule}
 use Rattle.meta_dv_dict.specs.Blocks.{pick}
 use Rattle.model.specs.State.{numberOf}
 use Rattle.model.specs.Steps.{checks, room, decide, extended}
-use Rattle.meta_dv_dict.proofs.Checks.{m9-m10-m11}
 use Rattle.examples.specs.Examples.{Examples}
 
 pub examples : Examples
-unfolding nameLimit firstOf isText escape escaped headOf furtherBytes frequentId fid writeRefusal writeAnswer writeBuffer packed pairRefusal packAnswer packBuffer fits grown grownAt allPages pick numberOf checks room decide extended
+unfolding nameLimit blockRule firstOf isText escape escaped headOf furtherBytes frequentId fid writeRefusal writeAnswer writeBuffer packed pairRefusal packAnswer packBuffer fits grown grownAt allPages pick numberOf checks room decide extended
 examples = record {
   m1-m3 = refl;
   m1-m2-rests = refl;
@@ -27,7 +27,7 @@ examples = record {
   m7 = refl;
   m7-answer = refl;
   m8 = refl;
-  m9-m11 = m9-m10-m11;
+  m9-m11 = refl;
   m11-number = refl;
   m9-m11-answers = refl;
 }

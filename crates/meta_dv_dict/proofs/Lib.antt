@@ -3,7 +3,6 @@ pub mod Steps
 pub mod Pigeons
 pub mod Numbers
 pub mod Rule
-pub mod Checks
 pub mod Search
 pub mod Tables
 pub mod Written
