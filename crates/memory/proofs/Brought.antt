@@ -6,10 +6,10 @@ use Rattle.slices.specs.Bytes.{Bytes}
 use Rattle.layout.specs.declared.Sizes.{Sizes}
 use Rattle.model.specs.Answers.{OpenAnswer}
 use Rattle.model.specs.State.{State, opened}
-use Rattle.model.specs.Calls.{Event, add, find, read, count, Before, nothing, Demand3}
+use Rattle.model.specs.Calls.{Event, add, find, read, count, Before, nothing, beforeOf, Demand3}
 use Rattle.model.specs.Runs.{Step, Runs}
 use Rattle.model.specs.Order.{ordered, freshNames}
-use Rattle.model.proofs.Lists.{beforeOf, lists-from, demand-3 as opened-demand, stands-for as opened-stands-for}
+use Rattle.model.proofs.Lists.{lists-from, demand-3 as opened-demand, stands-for as opened-stands-for}
 use Rattle.memory.specs.Stands.{Stands}
 use Rattle.memory.specs.Promises.{OpenPost}
 use Rattle.memory.specs.Lists.{Memory, Called, Brings, Brought, Demand3After}

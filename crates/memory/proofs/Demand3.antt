@@ -5,9 +5,8 @@ use Rattle.slices.specs.Bytes.{Bytes}
 use Rattle.layout.specs.declared.Sizes.{Sizes}
 use Rattle.model.specs.Answers.{OpenAnswer}
 use Rattle.model.specs.State.{State}
-use Rattle.model.specs.Calls.{Event, nothing, Demand3}
+use Rattle.model.specs.Calls.{Event, nothing, beforeOf, Demand3}
 use Rattle.model.specs.Order.{ordered, freshNames}
-use Rattle.model.proofs.Lists.{beforeOf}
 use Rattle.memory.specs.Stands.{Stands}
 use Rattle.memory.specs.Promises.{OpenPost}
 use Rattle.memory.specs.Lists.{Memory, Called, Calls, Brings, Brought, Demand3After}

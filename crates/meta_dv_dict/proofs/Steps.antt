@@ -13,12 +13,7 @@ use lib.Pow as Pow
 use Rattle.slices.proofs.Tests.{Split, split}
 use Rattle.layout.specs.declared.Sizes.{Sizes}
 use Rattle.meta_dv_dict.specs.Blocks.{Block, free, held, Blocks, noBlocks, search, start, pick, took, tookPicked, blocksAfter}
-use Rattle.meta_dv_dict.specs.Sound.{Sound, Below}
-
--- The block g may be taken for the kind k's next local number: free where a local block begins, else the one that holds it.
-pub data May (w : ℕ) (b : Blocks) (k g : ℕ) : Type 0 where
-  begins : b .next k % 2 ^ w ≡ 0 → b .owner g ≡ free → May w b k g
-  goes-on : b .next k % 2 ^ w ≢ 0 → b .place k (b .next k / 2 ^ w) ≡ g → May w b k g
+use Rattle.meta_dv_dict.specs.Sound.{Sound, Below, May, begins, goes-on}
 
 module _ (w : ℕ) (b : Blocks) (S : Sound w b) (k g : ℕ) where
   -- A block held by another local block is not g.

@@ -1,7 +1,8 @@
--- What every state of the blocks has that calls can reach, said as facts that a program could check. Assumes nothing.
-use Prim.Native.Nat.{ℕ, _*_, _^_, _<_}
+-- What every state of the blocks has that calls can reach, said as facts that a program could check; and which block a step may take. Assumes nothing.
+use Prim.Native.Nat.{ℕ, _*_, _/_, _%_, _^_, _<_}
 use mathlib.Core.Path.{_≡_}
-use Rattle.meta_dv_dict.specs.Blocks.{Blocks, held}
+use mathlib.Core.Logic.{_≢_}
+use Rattle.meta_dv_dict.specs.Blocks.{free, held, Blocks}
 
 -- Both tables of blocks name one another.
 pub record Sound (w : ℕ) (b : Blocks) : Type 0 where
@@ -11,3 +12,8 @@ pub record Sound (w : ℕ) (b : Blocks) : Type 0 where
 -- Every held block is below n.
 abbrev pub Below : ℕ → Blocks → Type 0
 Below n b = (g k l : ℕ) → b .owner g ≡ held k l → g < n
+
+-- The block g may be taken for the kind k's next local number: free where a local block begins, else the one that holds it.
+pub data May (w : ℕ) (b : Blocks) (k g : ℕ) : Type 0 where
+  begins : b .next k % 2 ^ w ≡ 0 → b .owner g ≡ free → May w b k g
+  goes-on : b .next k % 2 ^ w ≢ 0 → b .place k (b .next k / 2 ^ w) ≡ g → May w b k g

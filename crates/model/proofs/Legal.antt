@@ -13,7 +13,7 @@ use Rattle.limits.specs.Limits.{nameLimit}
 use Rattle.utf8.specs.Text.{isText}
 use Rattle.layout.specs.declared.Sizes.{Sizes}
 use Rattle.layout.specs.Sizes.{kinds}
-use Rattle.string_dv_dict.proofs.Laws.{IsPair}
+use Rattle.string_dv_dict.specs.Packed.{LegalTagged}
 use Rattle.model.specs.Names.{Name, size, limit}
 use Rattle.model.specs.Kinds.{row}
 use Rattle.model.specs.Steps.{badKind, checks}
@@ -52,7 +52,7 @@ pub legal-kind : (s : Sizes) (a : Name) → checks s a ≡ none → a .kind < ki
 legal-kind s a e = legal s a e .kind
 
 -- The parts of a kind with a tag are a tagged string.
-pub legal-pair : (s : Sizes) (a : Name) → checks s a ≡ none → row (a .kind) .needsTag ≡ true → IsPair (a .first) (a .second)
+pub legal-pair : (s : Sizes) (a : Name) → checks s a ≡ none → row (a .kind) .needsTag ≡ true → LegalTagged (a .first) (a .second)
 legal-pair s a e n =
     let l = legal s a e in
     record { size = l .size; text-is = l .first-text; tag-is = l .second-text; tagged = l .tag n }

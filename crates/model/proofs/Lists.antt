@@ -11,14 +11,14 @@ use Rattle.slices.specs.Bytes.{Bytes}
 use Rattle.refusals.specs.declared.Refusal.{Refusal}
 use Rattle.layout.specs.declared.Sizes.{Sizes}
 use Rattle.layout.specs.Sizes.{InRange, kinds}
-use Rattle.meta_dv_dict.specs.Blocks.{pick, blocksAfter, numberPicked}
+use Rattle.meta_dv_dict.specs.Blocks.{blocksAfter}
 use Rattle.meta_dv_dict.proofs.Rule.{rule-steps}
 use Rattle.model.specs.Names.{Name, size}
 use Rattle.model.specs.Answers.{AddAnswer, FindAnswer, ReadAnswer, CountAnswer}
 use Rattle.model.specs.State.{State, opened, numberOf, nameOf}
 use Rattle.model.specs.Steps.{checks, addAnswer, findBy, findChecked, findAnswer, readAnswer, readBuffer, countAnswer}
 use Rattle.model.specs.Good.{Good}
-use Rattle.model.specs.Calls.{Event, add, find, read, count, At, Gave, Accepted, Before, nothing, Given, Issued, freshKinds, howMany, Demand3}
+use Rattle.model.specs.Calls.{Event, add, find, read, count, At, Gave, Accepted, Before, nothing, stepsRule, beforeOf, Given, Issued, freshKinds, howMany, Demand3}
 use Rattle.model.specs.Runs.{Right, after, Runs}
 use Rattle.model.specs.Order.{ordered, freshNames}
 use Rattle.model.proofs.Numbers.{read-back, number-back}
@@ -46,10 +46,6 @@ module _ (Mem : Type 0) (s : Sizes) (Stands : State → Mem → Type 0) (st : St
       ((k .0, h .0), k .1)
 
 -- ---- the events and the state they lead to
-
--- The number that steps by the rule from the state give a name of the kind k, after names of these kinds, newest first.
-abbrev pub stepsRule : Sizes → State → List ℕ → ℕ → Option ℕ
-stepsRule s st ks k = numberPicked (s .w) (blocksAfter s (st .blocks) ks) k (pick s (blocksAfter s (st .blocks) ks) k)
 
 -- What was before the list is what the state has.
 pub record Starts (s : Sizes) (st : State) (o : Before) : Type 0 where
@@ -219,10 +215,6 @@ module _ (s : Sizes) (st : State) (G : Good s st) (o : Before) (S : Starts s st 
     }
 
 -- ---- demand 3
-
--- What a state counts as before a list that starts from it.
-abbrev pub beforeOf : Sizes → State → Before
-beforeOf s st = record { given = λ a n. numberOf s st a ≡ some n; count = λ k. length (st .part k .names); rule = stepsRule s st }
 
 opened-starts : (s : Sizes) → Starts s opened (nothing s)
 unfolding numberOf

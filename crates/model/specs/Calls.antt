@@ -13,8 +13,10 @@ use Rattle.refusals.specs.declared.Refusal.{Refusal}
 use Rattle.layout.specs.declared.Sizes.{Sizes}
 use Rattle.layout.specs.Sizes.{kinds}
 use Rattle.meta_dv_dict.specs.Rule.{blockRule}
+use Rattle.meta_dv_dict.specs.Blocks.{pick, blocksAfter, numberPicked}
 use Rattle.model.specs.Names.{Name}
 use Rattle.model.specs.Answers.{AddAnswer, FindAnswer, ReadAnswer, CountAnswer}
+use Rattle.model.specs.State.{State, numberOf}
 
 -- A call and its answer. A read has its number, the buffer before, the answer, the buffer after.
 pub data Event : Type 0 where
@@ -51,6 +53,14 @@ pub record Before : Type 1 where
 -- Before a list that starts from a freshly opened dictionary there was nothing, and numbers go by document 01's block rule.
 abbrev pub nothing : Sizes → Before
 nothing s = record { given = λ a n. ⊥; count = λ k. zero; rule = blockRule s }
+
+-- The number that the steps of the block rule give a fresh name of the kind k, from the state's blocks and after fresh names of these kinds, newest first.
+abbrev pub stepsRule : Sizes → State → List ℕ → ℕ → Option ℕ
+stepsRule s st ks k = numberPicked (s .w) (blocksAfter s (st .blocks) ks) k (pick s (blocksAfter s (st .blocks) ks) k)
+
+-- Before a list that starts from a state there was what the state has.
+abbrev pub beforeOf : Sizes → State → Before
+beforeOf s st = record { given = λ a n. numberOf s st a ≡ some n; count = λ k. length (st .part k .names); rule = stepsRule s st }
 
 -- An add of a was answered with n as P says, in the list; or a was given n before it.
 abbrev pub Added : (AddAnswer → ℕ → Type 0) → Before → Name → ℕ → List Event → Type 0

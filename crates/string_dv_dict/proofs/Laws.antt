@@ -22,20 +22,14 @@ use Rattle.refusals.specs.declared.Refusal.the-variants.{TooLong, NotText, NoTa
 use Rattle.refusals.specs.declared.Written.the-variants as W
 use Rattle.refusals.specs.Written.{writtenBy}
 use Rattle.string_dv_dict.specs.declared.Unpacked.the-variants.{Lengths}
-use Rattle.string_dv_dict.specs.Packed.{packed, pairRefusal, before, behind, unescaped, tagIn, textIn, isLegal, accepted}
+use Rattle.string_dv_dict.specs.Packed.{packed, pairRefusal, LegalTagged, before, behind, unescaped, tagIn, textIn, isLegal, accepted}
 use Rattle.string_dv_dict.specs.Answers.{withRoom, packAnswer, packBuffer, unpackedBy, unpackAnswer, unpackBuffer}
 use Rattle.string_dv_dict.proofs.Escapes.{read-before, read-escaped, before-split}
 use Rattle.string_dv_dict.proofs.Answers.{pack-done, unpack-done}
 
 -- ---- a legal text and tag
 
-pub record IsPair (text tag : Bytes) : Type 0 where
-  pub size : length text + length tag ≤ nameLimit
-  pub text-is : isText text ≡ true
-  pub tag-is : isText tag ≡ true
-  pub tagged : isEmpty tag ≡ false
-
-pub legal : (text tag : Bytes) → pairRefusal text tag ≡ none → IsPair text tag
+pub legal : (text tag : Bytes) → pairRefusal text tag ≡ none → LegalTagged text tag
 unfolding pairRefusal
 legal text tag e =
     let p = passed (ltb nameLimit (length text + length tag)) TooLong _ e in
@@ -53,7 +47,7 @@ pub filled : (x : Bytes) → length x ≢ 0 → isEmpty x ≡ false
 filled [] n = absurd (n refl)
 filled (a ∷ x) n = refl
 
-pub is-legal : (text tag : Bytes) → IsPair text tag → pairRefusal text tag ≡ none
+pub is-legal : (text tag : Bytes) → LegalTagged text tag → pairRefusal text tag ≡ none
 unfolding pairRefusal
 is-legal text tag h = rw (le-ltb _ _ (h .size), h .text-is, h .tag-is, h .tagged)
 
@@ -93,7 +87,7 @@ unpack-pack form e = (
 )
 
 -- So no limit of the forms refuses a legal text and tag.
-pub length-packed : (text tag : Bytes) → IsPair text tag → length (packed text tag) ≤ packedLimit
+pub length-packed : (text tag : Bytes) → LegalTagged text tag → length (packed text tag) ≤ packedLimit
 unfolding packed
 length-packed text tag h = go (split (leb (length tag) 127))
   where

@@ -1,5 +1,6 @@
 -- A tagged string packed into one byte string (Nemo's two_strings_to_one), and which forms are packed. Assumes nothing.
-use Prim.Native.Nat.{ℕ, _+_}
+use Prim.Native.Nat.{ℕ, _+_, _≤_}
+use mathlib.Core.Path.{_≡_}
 use mathlib.Core.Bool.{Bool, true, false, _&&_, not, cond}
 use mathlib.Core.List.{[], _∷_, _++_}
 use mathlib.Core.Option.{Option, none, some}
@@ -22,6 +23,13 @@ pairRefusal text tag =
     cond (ltb nameLimit (length text + length tag)) (some TooLong)
     (cond (not (isText text && isText tag)) (some NotText)
     (cond (isEmpty tag) (some NoTag) none))
+
+-- A text and a tag that are a legal tagged string: nothing refuses them.
+pub record LegalTagged (text tag : Bytes) : Type 0 where
+  pub size : length text + length tag ≤ nameLimit
+  pub text-is : isText text ≡ true
+  pub tag-is : isText tag ≡ true
+  pub tagged : isEmpty tag ≡ false
 
 -- ---- the parts that a form can only have
 

@@ -9,13 +9,13 @@ use borrow.Author.Tests.{not-true, not-false}
 use Rattle.slices.specs.Bytes.{Bytes}
 use Rattle.slices.proofs.Tests.{clash}
 use Rattle.utf8.specs.Text.{isText}
-use Rattle.string_dv_dict.specs.Packed.{textIn, tagIn, accepted}
-use Rattle.string_dv_dict.proofs.Laws.{IsPair, filled, legal, is-legal, unpack-pack}
+use Rattle.string_dv_dict.specs.Packed.{LegalTagged, textIn, tagIn, accepted}
+use Rattle.string_dv_dict.proofs.Laws.{filled, legal, is-legal, unpack-pack}
 use Rattle.string_dv_dict.proofs.Located.{to-end, long-text, long-is-text, long-low, long-high, long-taken, taken-form, cut-form}
 use Rattle.string_dv_dict.proofs.locate_long.Statement.{statement}
 use Rattle.string_dv_dict.proofs.locate_long.Tie as tie
 
-pair : (form : Bytes) → accepted form ≡ true → IsPair (textIn form) (tagIn form)
+pair : (form : Bytes) → accepted form ≡ true → LegalTagged (textIn form) (tagIn form)
 pair form p = legal (textIn form) (tagIn form) (unpack-pack form p .0)
 
 returns : tie.Need-returns
