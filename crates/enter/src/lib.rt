@@ -20,7 +20,7 @@ ghost use Prim.Native.Nat.{_≤_, _<_};
 ghost use lib.ListN.{length};
 ghost use Rattle.fnv.specs.Fnv.{fnvOf};
 ghost use Rattle.utf8.specs.Text.{isText};
-ghost use Rattle.layout.specs.Sizes.{InRange, kinds, listBytes};
+ghost use Rattle.layout.specs.Sizes.{InRange, kinds, pageSize, listBytes};
 ghost use Rattle.bytes_index.specs.Search.{keyOf, Searched};
 ghost use Rattle.bytes_index.specs.declared.Probe.the-variants.{Free};
 ghost use Rattle.model.specs.Names.{entered};
@@ -130,7 +130,7 @@ enum Planned {
 
 // Decides where one more entry of len bytes goes among the kind k's names: refusals 8, 9, 10.
 fn plan_entry(lists: &[u8], s: Sizes, k: usize, len: usize) -> Planned
-    requires { ⌜ InRange s × (listBytes s ≤ length (now lists)) × (k < kinds) × (len ≤ 8192) ⌝ }
+    requires { ⌜ InRange s × (listBytes s ≤ length (now lists)) × (k < kinds) × (len ≤ pageSize s) ⌝ }
     ensures { λ r. ⌜ Plans s (now (lists .entry)) k len r ⌝ }
 {
     let d = names::main_dictionary(k);
@@ -167,7 +167,7 @@ fn add_entry(
 ) -> AddResult
     requires { ⌜ Lent s (now pages) (now lists) k ⌝ }
     requires { ⌜ Searched s (row k .mainAt) (now pages) (now lists) (keyOf mode (now front) (now rest)) (Free place) ⌝ }
-    requires { ⌜ length (keyOf mode (now front) (now rest)) ≤ 8192 ⌝ }
+    requires { ⌜ length (keyOf mode (now front) (now rest)) ≤ pageSize s ⌝ }
     requires { ⌜ h ≡ fnvOf (keyOf mode (now front) (now rest)) ⌝ }
     ensures { λ r. ⌜ Added s (HasKey k (keyOf mode (now (front .entry)) (now (rest .entry)))) (now (pages .entry)) (now (lists .entry)) (addedBy r) (now (pages .exit)) (now (lists .exit)) ⌝ }
 {
@@ -208,7 +208,7 @@ pub fn add_str(
     rest: &[u8],
 ) -> AddResult
     requires { ⌜ Lent s (now pages) (now lists) k ⌝ }
-    requires { ⌜ length (keyOf mode (now front) (now rest)) ≤ 8192 ⌝ }
+    requires { ⌜ length (keyOf mode (now front) (now rest)) ≤ pageSize s ⌝ }
     requires { ⌜ h ≡ fnvOf (keyOf mode (now front) (now rest)) ⌝ }
     requires { ⌜ (plain ≡ true → (isText (now first) ≡ true) × (isText (now second) ≡ true)) ⌝ }
     ensures { λ r. ⌜ Judged (textRefusal (entered k (now (first .entry)) (now (second .entry)))) s (HasKey k (keyOf mode (now (front .entry)) (now (rest .entry)))) (now (pages .entry)) (now (lists .entry)) (addedBy r) (now (pages .exit)) (now (lists .exit)) ⌝ }

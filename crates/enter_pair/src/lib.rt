@@ -22,8 +22,7 @@ ghost use Prim.Native.Nat.{_+_, _*_, _%_, _^_, _≤_, _<_};
 ghost use lib.ListN.{length};
 ghost use Rattle.fnv.specs.Fnv.{fnvOf, bitsFrom};
 ghost use Rattle.utf8.specs.Text.{isText};
-ghost use Rattle.limits.specs.Limits.{nameLimit};
-ghost use Rattle.layout.specs.Sizes.{InRange, kinds, listBytes};
+ghost use Rattle.layout.specs.Sizes.{InRange, limit, kinds, pageSize, listBytes};
 ghost use Rattle.ranked_pair_dictionary.specs.FrequentId.{fid};
 ghost use Rattle.bytes_index.specs.Search.{Searched};
 ghost use Rattle.bytes_index.specs.declared.Probe.the-variants.{Free};
@@ -52,7 +51,7 @@ enum PairPlanned {
 // Decides where head number f, of `size` bytes, and its pair, of len bytes, go: refusals 8, 9, 10 of both together.
 fn plan_pair(lists: &[u8], s: Sizes, k: usize, f: usize, size: usize, len: usize) -> PairPlanned
     requires { ⌜ InRange s × (listBytes s ≤ length (now lists)) × (k < kinds) × (row k .paired ≡ true) ⌝ }
-    requires { ⌜ (size ≤ 8192) × (len ≤ 8192) ⌝ }
+    requires { ⌜ (size ≤ pageSize s) × (len ≤ pageSize s) ⌝ }
     ensures { λ r. ⌜ PlansPair s (now (lists .entry)) k f size len r ⌝ }
 {
     let d = names::main_dictionary(k);
@@ -153,7 +152,7 @@ fn add_both(
     head: &[u8],
     rest: &[u8],
 ) -> AddResult
-    requires { ⌜ Lent s (now pages) (now lists) k × (row k .paired ≡ true) × (length (now head) + length (now rest) ≤ nameLimit) ⌝ }
+    requires { ⌜ Lent s (now pages) (now lists) k × (row k .paired ≡ true) × (length (now head) + length (now rest) ≤ limit s) ⌝ }
     requires { ⌜ Searched s (row k .headsAt) (now pages) (now lists) (now head) (Free headplace) ⌝ }
     ensures { λ r. ⌜ Added s (HasPair k (now (head .entry)) (now (rest .entry))) (now (pages .entry)) (now (lists .entry)) (addedBy r) (now (pages .exit)) (now (lists .exit)) ⌝ }
 {
@@ -202,7 +201,7 @@ fn add_behind(
     f: usize,
     rest: &[u8],
 ) -> AddResult
-    requires { ⌜ Lent s (now pages) (now lists) k × (f < s .e) × (length (now rest) ≤ nameLimit) ⌝ }
+    requires { ⌜ Lent s (now pages) (now lists) k × (f < s .e) × (length (now rest) ≤ limit s) ⌝ }
     requires { ⌜ (bitsFrom bits (now rest) < 128 → (isText (now first) ≡ true) × (isText (now second) ≡ true)) ⌝ }
     ensures { λ r. ⌜ Judged (textRefusal (entered k (now (first .entry)) (now (second .entry)))) s (HasKey k (fid f ++ now (rest .entry))) (now (pages .entry)) (now (lists .entry)) (addedBy r) (now (pages .exit)) (now (lists .exit)) ⌝ }
 {
@@ -240,7 +239,7 @@ fn add_pair(
     head: &[u8],
     rest: &[u8],
 ) -> AddResult
-    requires { ⌜ Lent s (now pages) (now lists) k × (row k .paired ≡ true) × (length (now head) + length (now rest) ≤ nameLimit) ⌝ }
+    requires { ⌜ Lent s (now pages) (now lists) k × (row k .paired ≡ true) × (length (now head) + length (now rest) ≤ limit s) ⌝ }
     requires { ⌜ (bitsFrom (bitsFrom 0 (now head)) (now rest) < 128 → (isText (now first) ≡ true) × (isText (now second) ≡ true)) ⌝ }
     ensures { λ r. ⌜ Judged (textRefusal (entered k (now (first .entry)) (now (second .entry)))) s (HasPair k (now (head .entry)) (now (rest .entry))) (now (pages .entry)) (now (lists .entry)) (addedBy r) (now (pages .exit)) (now (lists .exit)) ⌝ }
 {
@@ -260,7 +259,7 @@ fn add_pair(
 }
 
 fn add_tagged(pages: &mut [u8], lists: &mut [u8], s: Sizes, text: &[u8], tag: &[u8]) -> AddResult
-    requires { ⌜ Lent s (now pages) (now lists) 2 × (length (now text) + length (now tag) ≤ nameLimit) ⌝ }
+    requires { ⌜ Lent s (now pages) (now lists) 2 × (length (now text) + length (now tag) ≤ limit s) ⌝ }
     ensures { λ r. ⌜ Judged (textRefusal (entered 2 (now (text .entry)) (now (tag .entry)))) s (λ st a. a ≡ entered 2 (now (text .entry)) (now (tag .entry))) (now (pages .entry)) (now (lists .entry)) (addedBy r) (now (pages .exit)) (now (lists .exit)) ⌝ }
 {
     let k = TAGGED;

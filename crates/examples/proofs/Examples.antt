@@ -1,6 +1,6 @@
 -- All the examples hold, computed together. Assumes nothing.
 use mathlib.Core.Path.{refl}
-use Rattle.limits.specs.Limits.{nameLimit}
+use Rattle.layout.specs.Sizes.{nameLimit, limit}
 use Rattle.utf8.specs.Text.{firstOf, isText}
 use Rattle.parts.specs.Parts.{escape, escaped}
 use Rattle.ranked_pair_iri_dv_dict.specs.Split.{headOf}
@@ -15,7 +15,7 @@ use Rattle.model.specs.Steps.{checks, room, decide, extended}
 use Rattle.examples.specs.Examples.{Examples}
 
 pub examples : Examples
-unfolding nameLimit blockRule firstOf isText escape escaped headOf furtherBytes frequentId fid writeRefusal writeAnswer writeBuffer packed pairRefusal packAnswer packBuffer fits grown grownAt allPages pick numberOf checks room decide extended
+unfolding nameLimit limit blockRule firstOf isText escape escaped headOf furtherBytes frequentId fid writeRefusal writeAnswer writeBuffer packed pairRefusal packAnswer packBuffer fits grown grownAt allPages pick numberOf checks room decide extended
 examples = record {
   m1-m3 = refl;
   m1-m2-rests = refl;

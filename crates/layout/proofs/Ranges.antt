@@ -11,7 +11,7 @@ use lib.Pow.{pow-mono}
 use Rattle.slices.proofs.Tests.{Split, split, and-left, and-right}
 use Rattle.layout.specs.declared.Sizes.{Sizes}
 use Rattle.layout.specs.declared.Made.the-variants.{Fit, BadSize}
-use Rattle.layout.specs.Sizes.{between, inRange, InRange, made, pageSize, pageBytes}
+use Rattle.layout.specs.Sizes.{between, inRange, InRange, made, nameLimit, limit, pageSize, pageBytes}
 
 pub between-facts : (lo hi x : ℕ) → between lo hi x ≡ true → (lo ≤ x) × (x ≤ hi)
 between-facts lo hi x e = (leb-true lo x (and-left (leb lo x) _ e), leb-true x hi (and-right (leb lo x) _ e))
@@ -65,6 +65,15 @@ made-bad s e = go (split (inRange s))
 pub page-size : (s : Sizes) → InRange s → (8192 ≤ pageSize s) × (pageSize s ≤ 1048576)
 unfolding pageSize
 page-size s h = (pow-mono (h .p .0), pow-mono (h .p .1))
+
+-- How long a name may be, of whatever sizes. It fits a page as it is stored: packed, or behind four bytes at the most.
+pub limit-within : (s : Sizes) → limit s ≤ nameLimit
+unfolding limit
+limit-within s = omega arith
+
+pub limit-fits : (s : Sizes) → InRange s → 6 + 2 * limit s ≤ pageSize s
+unfolding nameLimit limit
+limit-fits s h = omega (arith, page-size s h)
 
 -- Pages have 2^30 bytes at the most.
 pub page-bytes : (s : Sizes) → InRange s → pageBytes s ≤ 1073741824

@@ -1,5 +1,6 @@
--- The sizes of a dictionary's memory and their ranges, as document 01 has them. Assumes nothing.
+-- The sizes of a dictionary's memory, their ranges, and how long its names may be, as document 01 has them. Assumes nothing.
 use Prim.Native.Nat.{ℕ, _+_, _*_, _^_, _≤_}
+use mathlib.Core.Path.{_≡_, refl}
 use mathlib.Core.Bool.{Bool, _&&_, cond}
 pub use Rattle.slices.specs.Ranges.{within as between}
 use Rattle.layout.specs.declared.Sizes.{Sizes}
@@ -20,6 +21,22 @@ pub record InRange (s : Sizes) : Type 0 where
 
 unfoldable pub made : Sizes → Made
 made s = cond (inRange s) (Fit s) BadSize
+
+-- The most bytes that a name has, both parts together, and that a packed form has.
+unfoldable pub nameLimit : ℕ
+nameLimit = 4000
+
+unfoldable pub packedLimit : ℕ
+packedLimit = 8002
+
+-- A packed form is longest where every byte of the longest name is an escaped byte of the tag.
+pub packed-from-name : packedLimit ≡ 2 + 2 * nameLimit
+unfolding nameLimit packedLimit
+packed-from-name = refl
+
+-- The most bytes that a name has in a dictionary of these sizes.
+unfoldable pub limit : Sizes → ℕ
+limit s = nameLimit
 
 -- How many kinds and dictionaries there are.
 abbrev pub kinds : ℕ

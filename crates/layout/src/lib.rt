@@ -3,7 +3,7 @@ ghost use mathlib.Core.Path.{_≡_};
 ghost use Prim.Native.Nat.{_+_, _*_, _^_, _≤_, _<_};
 ghost use lib.ListN.{length, replicate};
 ghost use lib.Seq.{sets};
-ghost use Rattle.layout.specs.Sizes.{InRange, between, made, kinds, dictionaries, pageSize, pageBytes, listBytes};
+ghost use Rattle.layout.specs.Sizes.{InRange, between, made, limit, kinds, dictionaries, pageSize, pageBytes, listBytes};
 ghost use Rattle.layout.specs.Fields.{dictAt, blocksAt};
 ghost use Rattle.layout.specs.Header.{headerOf};
 ghost use Rattle.layout.specs.Opened.{openedLists};
@@ -94,6 +94,11 @@ impl Sizes {
 
     pub const B_MOST: usize = 4096;
 
+    // The most bytes that a name's two parts have together, and that a packed form has.
+    pub const NAME_LIMIT: usize = 4000;
+
+    pub const PACKED_LIMIT: usize = 8002;
+
     // The sizes, if each is in its range.
     pub fn new(p: usize, n: usize, e: usize, w: usize, b: usize) -> Made
         ensures { λ r. ⌜ r ≡ made (record { p = p; n = n; e = e; w = w; b = b }) ⌝ }
@@ -114,6 +119,13 @@ impl Sizes {
             return Made::BadSize;
         }
         Made::Fit(Sizes { p, n, e, w, b })
+    }
+
+    // The most bytes that a name of a dictionary with these sizes has.
+    pub fn limit(self) -> usize
+        ensures { λ r. ⌜ r ≡ limit self ⌝ }
+    {
+        Sizes::NAME_LIMIT
     }
 }
 

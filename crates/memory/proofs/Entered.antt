@@ -17,7 +17,6 @@ use Rattle.refusals.specs.declared.Refusal.the-variants as R
 use Rattle.layout.specs.declared.Sizes.{Sizes}
 use Rattle.layout.specs.Sizes.{kinds, dictionaries, pageSize}
 use Rattle.layout.specs.Fields.{untakenAt}
-use Rattle.layout.proofs.Ranges.{page-size}
 use Rattle.ranked_pair_dictionary.specs.FrequentId.{fid}
 use Rattle.ranked_pair_dictionary.proofs.Laws.{fid-same}
 use Rattle.bytes_index.specs.Search.{Searched}
@@ -164,7 +163,7 @@ module _ {s : Sizes} {st : State} {pages lists : Bytes} (S : Stands s st pages l
         (last-stamp s (a .kind) (stampOf (st .blocks)) (partOf st a .names) i (S .good .part (a .kind) .names) (q ∙ main-count S (a .kind) kind-in))
 
     key-fits : length (keyIn st a) ≤ pageSize s
-    key-fits = omega (arith, page-size s (S .good .sizes), key-short s a legal (partOf st a .heads))
+    key-fits = key-short s a legal (S .good .sizes) (partOf st a .heads)
 
     -- ---- its head is stored, or its kind has none
 
@@ -413,7 +412,7 @@ module _ {s : Sizes} {st : State} {pages lists : Bytes} (S : Stands s st pages l
         known = head-below (a .kind);
         searched = B .head-searched;
         room = subst (λ (n : ℕ). n < s .e) (sym (head-count S (a .kind) l pd)) (B .head-room);
-        short = omega (arith, page-size s (S .good .sizes), head-short s a (B .legal));
+        short = head-short s a (B .legal) (S .good .sizes);
         planned = by-word (headsOf a) _ (λ u. u) hspot (B .head-planned);
         spotted = B .head-spotted;
         stamp-fits = stamp-small S;

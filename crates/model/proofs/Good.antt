@@ -13,7 +13,7 @@ use Rattle.slices.specs.Updates.{upd}
 use Rattle.slices.proofs.Tests.{passed}
 use Rattle.refusals.specs.declared.Refusal.the-variants.{ListFull, NoPage}
 use Rattle.layout.specs.declared.Sizes.{Sizes}
-use Rattle.layout.specs.Sizes.{InRange, kinds, dictionaries}
+use Rattle.layout.specs.Sizes.{InRange, kinds, dictionaries, pageSize}
 use Rattle.bytes_buffer.specs.Pages.{allPages}
 use Rattle.bytes_buffer.proofs.Pages.{none-taken, grown-used, grown-taken}
 use Rattle.meta_dv_dict.specs.Blocks.{Blocks, took}
@@ -85,13 +85,11 @@ module _ (s : Sizes) (st : State) (a : Name) (g : ℕ) (G : Good s st) (e : Ente
         headless = G .part k .headless;
       })
 
-  page : 8192 ≤ 2 ^ s .p
-  page = Pow.pow-mono (G .sizes .p .0)
-
   used-of : (d : ℕ) → spaceAfter s st a d .used ≤ 2 ^ s .p
+  unfolding pageSize
   used-of = space-all s st a (λ d x. x .used ≤ 2 ^ s .p) (G .used)
-      (λ x. grown-used (s .p) x (length (headOf a)) (omega (arith, page, head-short s a (e .legal))))
-      (λ x. grown-used (s .p) x (length (keyOf (st .part (a .kind) .heads) a)) (omega (arith, page, key-short s a (e .legal) (st .part (a .kind) .heads))))
+      (λ x. grown-used (s .p) x (length (headOf a)) (head-short s a (e .legal) (G .sizes)))
+      (λ x. grown-used (s .p) x (length (keyOf (st .part (a .kind) .heads) a)) (key-short s a (e .legal) (G .sizes) (st .part (a .kind) .heads)))
 
   pageless-of : (d : ℕ) → spaceAfter s st a d .taken ≡ zero → spaceAfter s st a d .used ≡ zero
   pageless-of = space-all s st a (λ d x. x .taken ≡ zero → x .used ≡ zero) (G .pageless)

@@ -4,8 +4,6 @@ use mathlib.Core.Bool.{Bool, _&&_}
 use lib.Dec.{eqb}
 use lib.ListN.{length}
 use Rattle.slices.specs.Bytes.{Bytes, sameBytes}
-use Rattle.limits.specs.Limits.{nameLimit}
-use Rattle.layout.specs.declared.Sizes.{Sizes}
 
 pub record Name : Type 0 where
   pub kind : ℕ
@@ -16,12 +14,9 @@ pub record Name : Type 0 where
 abbrev pub entered : ℕ → Bytes → Bytes → Name
 entered k a b = record { kind = k; first = a; second = b }
 
--- Both parts together, and the most they may have.
+-- Both parts together.
 abbrev pub size : Name → ℕ
 size a = length (a .first) + length (a .second)
-
-abbrev pub limit : Sizes → ℕ
-limit s = nameLimit
 
 -- Names are equal when kind and both parts agree byte for byte.
 abbrev pub sameName : Name → Name → Bool

@@ -12,10 +12,10 @@ use Rattle.refusals.specs.declared.Refusal.the-variants.{BadSize, ShortMemory, 
 use Rattle.utf8.specs.Text.{isText}
 use Rattle.ranked_pair_dictionary.specs.FrequentId.{fid}
 use Rattle.layout.specs.declared.Sizes.{Sizes}
-use Rattle.layout.specs.Sizes.{inRange, kinds, pageBytes, listBytes}
+use Rattle.layout.specs.Sizes.{inRange, limit, kinds, pageBytes, listBytes}
 use Rattle.bytes_buffer.specs.Pages.{Space, grownAt, allPages}
 use Rattle.meta_dv_dict.specs.Blocks.{pick, took, newest}
-use Rattle.model.specs.Names.{Name, size, limit}
+use Rattle.model.specs.Names.{Name, size}
 use Rattle.model.specs.Answers.{OpenAnswer, AddAnswer, FindAnswer, ReadAnswer, CountAnswer}
 use Rattle.model.specs.Kinds.{row}
 use Rattle.model.specs.State.{Part, State, stampOf, entryNumber, numberOf, nameOf}

@@ -13,8 +13,8 @@ use Rattle.slices.proofs.Tests.{Split, split, or-left, or-right, passed}
 use Rattle.refusals.specs.declared.Refusal.{Refusal}
 use Rattle.refusals.specs.declared.Refusal.the-variants.{BadKind, TooLong}
 use Rattle.layout.specs.declared.Sizes.{Sizes}
-use Rattle.layout.specs.Sizes.{kinds}
-use Rattle.model.specs.Names.{Name, size, limit}
+use Rattle.layout.specs.Sizes.{limit, kinds}
+use Rattle.model.specs.Names.{Name, size}
 use Rattle.model.specs.Steps.{badKind, checks}
 use Rattle.names.specs.Checks.{shapeRefusal, textRefusal}
 use Rattle.names.proofs.Rows.{one-part}

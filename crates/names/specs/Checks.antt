@@ -7,7 +7,8 @@ use Rattle.refusals.specs.declared.Refusal.{Refusal}
 use Rattle.refusals.specs.declared.Refusal.the-variants.{BadKind, TooLong, NotText, NoTag}
 use Rattle.utf8.specs.Text.{isText}
 use Rattle.layout.specs.declared.Sizes.{Sizes}
-use Rattle.model.specs.Names.{Name, size, limit}
+use Rattle.layout.specs.Sizes.{limit}
+use Rattle.model.specs.Names.{Name, size}
 use Rattle.model.specs.Kinds.{row}
 use Rattle.model.specs.Steps.{badKind}
 

@@ -78,14 +78,14 @@ fn is_bad_kind(kind: usize, second: &[u8]) -> bool
     second.len() != 0
 }
 
-// Refusals 4 and 5 of a name. The sizes are there for a limit that depends on them; none does today.
+// Refusals 4 and 5 of a name. How long a name may be is asked of the sizes.
 pub fn check_shape(s: Sizes, kind: usize, first: &[u8], second: &[u8]) -> Checked
     ensures { λ r. ⌜ r ≡ checkedBy (shapeRefusal s (entered kind (now (first .entry)) (now (second .entry)))) ⌝ }
 {
     if is_bad_kind(kind, second) {
         return Checked::Illegal(Refusal::BadKind);
     }
-    if limits::name_limit() < first.len() + second.len() {
+    if s.limit() < first.len() + second.len() {
         return Checked::Illegal(Refusal::TooLong);
     }
     Checked::Legal

@@ -14,7 +14,7 @@ ghost use lib.ListN.{length};
 ghost use mathlib.Core.Option.{none};
 ghost use Rattle.fnv.specs.Fnv.{fnvOf, bitsFrom};
 ghost use Rattle.utf8.specs.Text.{isText};
-ghost use Rattle.limits.specs.Limits.{nameLimit};
+ghost use Rattle.layout.specs.Sizes.{limit};
 ghost use Rattle.parts.specs.Parts.{bytesOf};
 ghost use Rattle.bytes_index.specs.Search.{keyOf, Searched};
 ghost use Rattle.model.specs.Names.{entered};
@@ -103,7 +103,7 @@ fn find_pair(pages: &[u8], lists: &[u8], s: Sizes, k: usize, head: &[u8], rest: 
 }
 
 fn find_tagged(pages: &[u8], lists: &[u8], s: Sizes, text: &[u8], tag: &[u8]) -> Search
-    requires { ⌜ Lent s (now pages) (now lists) 2 × (length (now text) + length (now tag) ≤ nameLimit) ⌝ }
+    requires { ⌜ Lent s (now pages) (now lists) 2 × (length (now text) + length (now tag) ≤ limit s) ⌝ }
     ensures { λ r. ⌜ FindsName s (λ a. a ≡ entered 2 (now (text .entry)) (now (tag .entry))) (now (pages .entry)) (now (lists .entry)) r ⌝ }
 {
     let h = bytes_index::hash(Mode::Tag, tag, text);

@@ -1,5 +1,5 @@
 -- Packing and unpacking undo one another, for texts and tags of every length. Assumes nothing.
-use Prim.Native.Nat.{ℕ, _+_, _<_, _≤_}
+use Prim.Native.Nat.{ℕ, _+_, _*_, _<_, _≤_}
 use mathlib.Core.Path.{_≡_, refl, sym, ap, _∙_}
 use mathlib.Core.Logic.{_≢_, inl, inr}
 use mathlib.Core.Bool.{true, false, _&&_, not}
@@ -13,7 +13,7 @@ use lib.Seq.{take-append-seam, drop-append-seam, take-at, drop-at}
 use Rattle.slices.specs.Bytes.{Bytes, isEmpty}
 use Rattle.slices.proofs.Tests.{Split, split, and-left, and-right, passed, clash}
 use Rattle.slices.proofs.Bytes.{bytes-true, bytes-same, not-empty}
-use Rattle.limits.specs.Limits.{nameLimit, packedLimit, packed-from-name}
+use Rattle.layout.specs.Sizes.{nameLimit, packedLimit, packed-from-name}
 use Rattle.utf8.specs.Text.{isText}
 use Rattle.parts.specs.Parts.{escaped}
 use Rattle.parts.proofs.Laws.{length-escaped}
@@ -86,14 +86,18 @@ unpack-pack form e = (
   bytes-true _ _ (and-right (isLegal (pairRefusal (textIn form) (tagIn form))) _ e),
 )
 
+-- Escaping doubles a tag at the most, and two bytes are added.
+pub packed-at-most : (text tag : Bytes) → length (packed text tag) ≤ 2 + 2 * (length text + length tag)
+unfolding packed
+packed-at-most text tag = go (split (leb (length tag) 127))
+  where
+    go : Split (leb (length tag) 127) → length (packed text tag) ≤ 2 + 2 * (length text + length tag)
+    go (inl p) = rw p (simp length-append (omega arith))
+    go (inr p) = rw p (simp length-append (omega (arith, length-escaped tag .0)))
+
 -- So no limit of the forms refuses a legal text and tag.
 pub length-packed : (text tag : Bytes) → LegalTagged text tag → length (packed text tag) ≤ packedLimit
-unfolding packed
-length-packed text tag h = go (split (leb (length tag) 127))
-  where
-    go : Split (leb (length tag) 127) → length (packed text tag) ≤ packedLimit
-    go (inl p) = rw (p, packed-from-name) (simp length-append (omega (arith, h .size)))
-    go (inr p) = rw (p, packed-from-name) (simp length-append (omega (arith, h .size, length-escaped tag .0)))
+length-packed text tag h = rw packed-from-name (omega (arith, h .size, packed-at-most text tag))
 
 -- ---- what an accepted form looks like
 

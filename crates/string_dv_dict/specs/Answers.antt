@@ -6,7 +6,7 @@ use mathlib.Core.Option.{Option, none, some}
 use lib.Dec.{ltb}
 use lib.ListN.{length}
 use Rattle.slices.specs.Bytes.{Bytes}
-use Rattle.limits.specs.Limits.{packedLimit}
+use Rattle.layout.specs.Sizes.{packedLimit}
 use Rattle.refusals.specs.declared.Refusal.{Refusal}
 use Rattle.refusals.specs.declared.Refusal.the-variants.{TooLong, ShortBuffer, CutForm}
 use Rattle.refusals.specs.declared.Written.{Written}

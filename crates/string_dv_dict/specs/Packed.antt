@@ -7,7 +7,7 @@ use mathlib.Core.Option.{Option, none, some}
 use lib.Dec.{eqb, leb, ltb}
 use lib.ListN.{length, take, drop}
 use Rattle.slices.specs.Bytes.{Bytes, isEmpty, sameBytes}
-use Rattle.limits.specs.Limits.{nameLimit}
+use Rattle.layout.specs.Sizes.{nameLimit}
 use Rattle.utf8.specs.Text.{isText}
 use Rattle.parts.specs.Parts.{escaped}
 use Rattle.refusals.specs.declared.Refusal.{Refusal}

@@ -1,4 +1,5 @@
 // Tagged strings packed into one byte string (Nemo's string_dv_dict.rs), and unpacked again.
+use layout::Sizes;
 use parts::Mode;
 use parts::SHORT;
 use refusals::Checked;
@@ -12,7 +13,7 @@ ghost use lib.Seq.{sets};
 ghost use Rattle.string_dv_dict.specs.Packed.{pairRefusal, accepted, before, unescape, unescaped};
 ghost use Rattle.string_dv_dict.specs.Answers.{packAnswer, packBuffer, unpackAnswer, unpackBuffer};
 ghost use Rattle.refusals.specs.Checked.{checkedBy};
-ghost use Rattle.limits.specs.Limits.{packedLimit};
+ghost use Rattle.layout.specs.Sizes.{packedLimit};
 ghost use Rattle.parts.specs.Parts.{bytesOf};
 ghost use Rattle.string_dv_dict.specs.Scans.{scanStep, scanFrom, scanned, longSplit, splitOf, formOf, ShortForm, LongForm};
 
@@ -40,7 +41,7 @@ pub enum Form {
 pub fn check_pair(text: &[u8], tag: &[u8]) -> Checked
     ensures { λ r. ⌜ r ≡ checkedBy (pairRefusal (now (text .entry)) (now (tag .entry))) ⌝ }
 {
-    if limits::name_limit() < text.len() + tag.len() {
+    if Sizes::NAME_LIMIT < text.len() + tag.len() {
         return Checked::Illegal(Refusal::TooLong);
     }
     if !utf8::is_text(text) {
@@ -191,7 +192,7 @@ fn locate_long(form: &[u8], end: usize, n: usize) -> Form
         return Form::Cut;
     }
     let text = &form[end + 2..];
-    if limits::name_limit() < text.len() + n {
+    if Sizes::NAME_LIMIT < text.len() + n {
         return Form::Cut;
     }
     if !utf8::is_text(text) {
@@ -278,7 +279,7 @@ fn unpack_long(form: &[u8], end: usize, n: usize, buffer: &mut [u8]) -> Unpacked
 pub fn one_string_to_two(form: &[u8], buffer: &mut [u8]) -> Unpacked
     ensures { λ r. ⌜ (r ≡ unpackAnswer (now (form .entry)) (length (now (buffer .entry)))) × (now (buffer .exit) ≡ unpackBuffer (now (form .entry)) (now (buffer .entry))) ⌝ }
 {
-    if limits::packed_limit() < form.len() {
+    if Sizes::PACKED_LIMIT < form.len() {
         return Unpacked::Refused(Refusal::TooLong);
     }
     match locate(form) {

@@ -3,6 +3,8 @@ use Prim.Native.Nat.{_+_, _≤_}
 use mathlib.Core.Path.{_≡_, subst}
 use native.Mathlib.Omega.{arith}
 use lib.ListN.{length}
+use Rattle.layout.specs.Sizes.{pageSize}
+use Rattle.layout.proofs.Ranges.{page-size}
 use Rattle.bytes_index.specs.Search.{keyOf}
 use Rattle.bytes_dictionary.specs.Written.{HasRoom}
 use Rattle.bytes_dictionary.proofs.Keys.{length-key}
@@ -12,11 +14,11 @@ use borrow.Author.Needs.{needs}
 use Rattle.enter.proofs.add_entry.Statement.{statement}
 use Rattle.enter.proofs.add_entry.Tie as tie
 
--- The key's length is the sum that is computed, and small.
+-- The key's length is the sum that is computed, and fits a page.
 sized : (c : tie.After-measure) →
     let a = c .before .before .before .before .before .args in
     let n = c .measure .result + length (a .rest .now) in
-    (n ≡ length (keyOf (a .mode) (a .front .now) (a .rest .now))) × (n ≤ 8192)
+    (n ≡ length (keyOf (a .mode) (a .front .now) (a .rest .now))) × (n ≤ pageSize (a .s))
 sized c =
     let z = c .before .before .before .before .before in
     let l = length-key (z .args .mode) (z .args .front .now) (z .args .rest .now) in
@@ -35,10 +37,12 @@ fit c =
 measure-requires : tie.Need-measure-requires
 measure-requires c κs =
     let z = c .before .before .before .before in
-    omega (arith, length-key (z .args .mode) (z .args .front .now) (z .args .rest .now), z .pre .1 .1 .0)
+    omega (arith, length-key (z .args .mode) (z .args .front .now) (z .args .rest .now), z .pre .1 .1 .0, page-size (z .args .s) (z .pre .0 .ranged))
 
 add-len : tie.Need-add-len
-add-len c = omega (arith, sized c)
+add-len c =
+    let z = c .before .before .before .before .before in
+    omega (arith, sized c, page-size (z .args .s) (z .pre .0 .ranged))
 
 plan-entry-requires : tie.Need-plan-entry-requires
 plan-entry-requires c κs =

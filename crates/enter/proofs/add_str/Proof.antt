@@ -5,6 +5,7 @@ use mathlib.Core.Option.{none}
 use native.Mathlib.Omega.{arith}
 use lib.ListN.{length}
 use Rattle.parts.specs.Parts.{bytesOf}
+use Rattle.layout.proofs.Ranges.{page-size}
 use Rattle.bytes_index.specs.declared.Probe.{Probe}
 use Rattle.bytes_index.specs.Search.{keyOf, Searched}
 use Rattle.bytes_dictionary.proofs.Keys.{length-key}
@@ -43,7 +44,7 @@ bytes-to-id-requires : tie.Need-bytes-to-id-requires
 bytes-to-id-requires c κs =
     let z = c .before .before .before .before .before .before .before .before .before in
     let a = z .args in
-    let l : length (bytesOf (a .mode) (a .front .now)) < 2 ^ 64 = omega (arith, length-key (a .mode) (a .front .now) (a .rest .now), z .pre .1 .0) in
+    let l : length (bytesOf (a .mode) (a .front .now)) < 2 ^ 64 = omega (arith, length-key (a .mode) (a .front .now) (a .rest .now), z .pre .1 .0, page-size (a .s) (z .pre .0 .ranged)) in
     search needs
 
 check-text-requires : tie.Need-check-text-requires

@@ -2,7 +2,6 @@
 use mathlib.Core.Path.{_≡_, sym, ap, subst, _∙_}
 use native.Mathlib.Omega.{arith}
 use Rattle.words.specs.Words.{wordAt}
-use Rattle.layout.proofs.Ranges.{page-size}
 use Rattle.bytes_buffer.specs.Spots.{spotIn}
 use Rattle.bytes_dictionary.specs.declared.Counted.the-variants.{Entries}
 use Rattle.bytes_dictionary.specs.Reading.{countIn}
@@ -82,7 +81,7 @@ returns-3 c =
 plan-requires : tie.Need-plan-requires
 plan-requires c κs =
     let p = c .before .before .before .before .before .before .before .before .before .before .before .before .pre in
-    ((p .0, p .1), (c .before .before .before .before .before .before .before .before .before .before .main-dictionary .ensures .1, omega (arith, p .3, page-size _ (p .0))))
+    ((p .0, p .1), (c .before .before .before .before .before .before .before .before .before .before .main-dictionary .ensures .1, p .3))
 
 check-spot-requires : tie.Need-check-spot-requires
 check-spot-requires c κs = search needs
@@ -115,7 +114,7 @@ returns-5 : tie.Need-returns-5
 returns-5 c =
     let r = c .before .before .before in
     let z = r .before .before .before .before .before .before .before .before .before .before .before .before .before .before .before .before .before in
-    plans-ready _ _ _ _ (z .pre .2) _ _ _ (planned (r .before .before .before .before)) (spotted (r .before)) _ _ (omega (arith, z .pre .3, page-size _ (z .pre .0)))
+    plans-ready _ _ _ _ (z .pre .2) _ _ _ (planned (r .before .before .before .before)) (spotted (r .before)) _ _ (z .pre .3)
     (subst (Reserves _ _ _ _) (c .before .g .given .1) (r .reserve .ensures))
 
 returns-6 : tie.Need-returns-6

@@ -6,7 +6,8 @@ use native.Mathlib.Omega.{arith}
 use lib.ListN.{length, take, length-append}
 use lib.Seq.{length-take-le}
 use Rattle.slices.specs.Bytes.{Bytes}
-use Rattle.limits.specs.Limits.{nameLimit}
+use Rattle.layout.specs.Sizes.{pageSize}
+use Rattle.layout.proofs.Ranges.{limit-fits}
 use Rattle.fnv.specs.Fnv.{fnvOf}
 use Rattle.parts.specs.declared.Mode.the-variants.{Raw}
 use Rattle.ranked_pair_dictionary.specs.FrequentId.{fid}
@@ -50,11 +51,11 @@ key-at c =
     lead-key (z .args .f) zeros (small z) (omega arith) _ (z .args .rest .now) _ (c .before .before .before .write-frequent-id .ensures .1) (length-m c)
 
 key-short : (c : tie.After-m) →
-    length (keyOf Raw (take (c .m .given .0 .0) (c .before .before .before .write-frequent-id .last .1 .0)) (start c .args .rest .now)) ≤ 8192
-unfolding nameLimit
+    length (keyOf Raw (take (c .m .given .0 .0) (c .before .before .before .write-frequent-id .last .1 .0)) (start c .args .rest .now)) ≤ pageSize (start c .args .s)
 key-short c =
     let z = start c in
-    subst (λ x. length x ≤ 8192) (sym (key-at c)) (omega (arith, length-append (fid (z .args .f)) (z .args .rest .now), lead-short (z .args .f), z .pre .0 .2))
+    subst (λ x. length x ≤ pageSize (z .args .s)) (sym (key-at c))
+    (omega (arith, length-append (fid (z .args .f)) (z .args .rest .now), lead-short (z .args .f), z .pre .0 .2, limit-fits (z .args .s) (z .pre .0 .0 .ranged)))
 
 -- Its hash.
 abbrev led : tie.After-scan → tie.After-m

@@ -6,7 +6,8 @@ use native.Mathlib.Omega.{arith}
 use lib.ListN.{length, take, length-append}
 use lib.Seq.{length-take-le}
 use Rattle.slices.specs.Bytes.{Bytes}
-use Rattle.limits.specs.Limits.{nameLimit}
+use Rattle.layout.specs.Sizes.{pageSize}
+use Rattle.layout.proofs.Ranges.{page-size, limit-fits}
 use Rattle.fnv.specs.Fnv.{fnvOf}
 use Rattle.parts.specs.declared.Mode.the-variants.{Raw}
 use Rattle.ranked_pair_dictionary.specs.FrequentId.{fid}
@@ -69,13 +70,13 @@ lead-rest : (c : tie.After-m) →
 lead-rest c = sym (raw-key (take (c .m .given .0 .0) (c .before .before .before .write-frequent-id .last .1 .0)) (entered (numbered c) .args .rest .now)) ∙ key-at c
 
 sized : (c : tie.After-m) →
-    let rest = entered (numbered c) .args .rest .now in
-    (c .m .given .0 .0 + length rest ≡ length (fid (numbered c .f .given .0 .0) ++ rest)) × (c .m .given .0 .0 + length rest ≤ 4004)
-unfolding nameLimit
+    let a = entered (numbered c) .args in
+    let rest = a .rest .now in
+    (c .m .given .0 .0 + length rest ≡ length (fid (numbered c .f .given .0 .0) ++ rest)) × (c .m .given .0 .0 + length rest ≤ pageSize (a .s))
 sized c =
     let f = numbered c in
     let z = entered f in
-    (omega (arith, length-m c, length-append (fid (f .f .given .0 .0)) (z .args .rest .now)), omega (arith, length-m c, lead-short (f .f .given .0 .0), z .pre .0 .2))
+    (omega (arith, length-m c, length-append (fid (f .f .given .0 .0)) (z .args .rest .now)), omega (arith, length-m c, lead-short (f .f .given .0 .0), z .pre .0 .2, limit-fits (z .args .s) (z .pre .0 .0 .ranged)))
 
 -- Its hash.
 abbrev before-hash : tie.After-fnv-from → tie.After-m
@@ -237,15 +238,16 @@ returns-3 c =
 
 add-plan-pair : tie.Need-add-plan-pair
 add-plan-pair c =
-    omega (arith, sized (led (c .before .before .before .before)))
+    let m = led (c .before .before .before .before) in
+    let z = entered (numbered m) in
+    omega (arith, sized m, page-size (z .args .s) (z .pre .0 .0 .ranged))
 
 plan-pair-requires : tie.Need-plan-pair-requires
-unfolding nameLimit
 plan-pair-requires c κs =
     let m = led (c .before .before .before .before) in
     let p = entered (numbered m) .pre .0 in
     let L = p .0 in
-    ((L .ranged, L .lists-fit, L .kinded, p .1), (omega (arith, p .2), omega (arith, sized m)))
+    ((L .ranged, L .lists-fit, L .kinded, p .1), (omega (arith, p .2, limit-fits _ (L .ranged)), sized m .1))
 
 enum-known-x : tie.Need-enum-known-x
 enum-known-x c = search needs

@@ -7,10 +7,11 @@ use native.Mathlib.Omega.{arith}
 use lib.ListN.{length, take, length-drop}
 use lib.Seq.{length-take-le}
 use Rattle.slices.specs.Bytes.{Bytes}
-use Rattle.limits.specs.Limits.{nameLimit}
 use Rattle.parts.specs.declared.Mode.the-variants.{Raw}
 use Rattle.parts.specs.Parts.{bytesOf}
 use Rattle.layout.specs.declared.Sizes.{Sizes}
+use Rattle.layout.specs.Sizes.{InRange, limit, pageSize}
+use Rattle.layout.proofs.Ranges.{limit-fits}
 use Rattle.bytes_index.specs.Search.{keyOf}
 use Rattle.model.specs.Names.{Name, entered}
 use Rattle.model.specs.Kinds.{row}
@@ -36,14 +37,14 @@ other-kind : (s : Sizes) (pages lists : Bytes) (k j : ℕ) → Lent s pages list
 other-kind s pages lists k j L e = subst (Lent s pages lists) e L
 
 -- Head and rest are no longer than the two parts.
-parts-short : (k : ℕ) (first second : Bytes) (n : ℕ) → n ≤ length first → length first + length second ≤ nameLimit
-    → length (take n first) + length (restBehind n k first second) ≤ nameLimit
-parts-short zero first second n l h = omega (arith, length-take-le n first l, length-drop n first)
-parts-short (suc k) first second n l h = omega (arith, length-take-le n first l)
+parts-short : (k : ℕ) (first second : Bytes) (n m : ℕ) → n ≤ length first → length first + length second ≤ m
+    → length (take n first) + length (restBehind n k first second) ≤ m
+parts-short zero first second n m l h = omega (arith, length-take-le n first l, length-drop n first)
+parts-short (suc k) first second n m l h = omega (arith, length-take-le n first l)
 
-plain-short : (first second : Bytes) → length first + length second ≤ nameLimit → length (keyOf Raw [] first) ≤ 8192
-unfolding bytesOf nameLimit
-plain-short first second h = omega arith
+plain-short : (s : Sizes) (first second : Bytes) → InRange s → length first + length second ≤ limit s → length (keyOf Raw [] first) ≤ pageSize s
+unfolding bytesOf
+plain-short s first second r h = omega (arith, limit-fits s r)
 
 -- What the arguments of each kind stand for.
 module _ (k : ℕ) (first second : Bytes) (st : State) (a : Name) (m : a ≡ entered k first second) where
@@ -81,7 +82,7 @@ add-str-requires c κs =
     let x = c .before .before .before .scan in (
       other-kind _ _ _ _ _ (z .pre .0) (t .if1 .taken),
       (
-        plain-short (a .first .now) (a .second .now) (shape-size (a .s) (entered (a .kind) (a .first .now) (a .second .now)) (z .pre .1)),
+        plain-short (a .s) (a .first .now) (a .second .now) (z .pre .0 .ranged) (shape-size (a .s) (entered (a .kind) (a .first .now) (a .second .now)) (z .pre .1)),
         (
           whole-hash (a .first .now) (x .result .h) (scanned-hash _ _ (x .ensures .0)),
           λ p. (
@@ -150,8 +151,8 @@ add-pair-requires c κs =
       (
         other-kind _ _ _ _ _ (z .pre .0) refl,
         has-heads (h .before),
-        subst (λ (y : Bytes). length (take n (a .first .now)) + length y ≤ nameLimit) (sym (b .rest-behind .ensures))
-            (parts-short (a .kind) (a .first .now) (a .second .now) n (h .head-length .ensures .1) (shape-size (a .s) N (z .pre .1))),
+        subst (λ (y : Bytes). length (take n (a .first .now)) + length y ≤ limit (a .s)) (sym (b .rest-behind .ensures))
+            (parts-short (a .kind) (a .first .now) (a .second .now) n (limit (a .s)) (h .head-length .ensures .1) (shape-size (a .s) N (z .pre .1))),
       ),
       pair-plain (a .kind) (a .first .now) (a .second .now) _ n (h .head-length .ensures .0) (h .head-length .ensures .1) (b .rest-behind .ensures) (shape-second (a .s) N (z .pre .1)),
     )

@@ -3,7 +3,7 @@ use mathlib.Core.Path.{_≡_, refl}
 use mathlib.Core.Bool.{false≢true}
 use native.Mathlib.Omega.{arith}
 use Rattle.slices.specs.Bytes.{Bytes}
-use Rattle.limits.specs.Limits.{nameLimit}
+use Rattle.layout.proofs.Ranges.{limit-fits}
 use Rattle.parts.specs.declared.Mode.the-variants.{Tag}
 use Rattle.parts.proofs.Laws.{length-bytes}
 use Rattle.bytes_index.specs.Search.{keyOf}
@@ -24,13 +24,12 @@ hash-requires : tie.Need-hash-requires
 hash-requires c κs = search needs
 
 add-str-requires : tie.Need-add-str-requires
-unfolding nameLimit
 add-str-requires c κs =
     let z = c .before .before .before .before .before .before .before in
     let a = z .args in
     let L = z .pre .0 in (
       record { ranged = L .ranged; pages-fit = L .pages-fit; lists-fit = L .lists-fit; kinded = L .kinded },
-      (omega (arith, length-key Tag (a .tag .now) (a .text .now), length-bytes Tag (a .tag .now), z .pre .1), (c .before .before .hash .ensures, λ p. absurd (false≢true p))),
+      (omega (arith, length-key Tag (a .tag .now) (a .text .now), length-bytes Tag (a .tag .now), z .pre .1, limit-fits (a .s) (L .ranged)), (c .before .before .hash .ensures, λ p. absurd (false≢true p))),
     )
 
 same-length : tie.Need-same-length

@@ -6,7 +6,6 @@ use native.Mathlib.Omega.{arith}
 use borrow.Author.Tests.{leb-true, leb-false}
 use Rattle.words.specs.Words.{wordAt}
 use Rattle.layout.specs.Sizes.{pageSize}
-use Rattle.layout.proofs.Ranges.{page-size}
 use Rattle.bytes_buffer.specs.Spots.{spotIn, untakenAfter, InPages}
 use Rattle.bytes_buffer.proofs.Spots.{lowest-page}
 use Rattle.bytes_dictionary.specs.declared.Counted.the-variants.{Entries}
@@ -51,9 +50,8 @@ read c =
 
 short : (c : tie.After-untaken2) → let a = entered c .args in (a .size ≤ pageSize (a .s)) × (a .len ≤ pageSize (a .s))
 short c =
-    let z = entered c in
-    let p = page-size (z .args .s) (z .pre .0 .0) in
-    (omega (arith, z .pre .1 .0), omega (arith, z .pre .1 .1))
+    let p = entered c .pre .1 in
+    (p .0, p .1)
 
 -- The head's spot as it was planned.
 head-planned : (c : tie.After-plan) →

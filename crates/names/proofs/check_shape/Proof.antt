@@ -6,7 +6,7 @@ use mathlib.Core.Option.{none, some}
 use native.Mathlib.Omega.{arith}
 use borrow.Author.Needs.{needs}
 use borrow.Author.Tests.{lt-ltb, le-ltb}
-use Rattle.limits.specs.Limits.{nameLimit}
+use Rattle.layout.specs.Sizes.{limit}
 use Rattle.refusals.specs.declared.Refusal.the-variants.{BadKind, TooLong}
 use Rattle.layout.specs.declared.Sizes.{Sizes}
 use Rattle.refusals.specs.Checked.{checkedBy}
@@ -23,11 +23,11 @@ module _ (s : Sizes) (a : Name) where
   kind-not k = rw k
 
   module _ (k : badKind a ≡ false) where
-    long : nameLimit < size a → shapeRefusal s a ≡ some TooLong
+    long : limit s < size a → shapeRefusal s a ≡ some TooLong
     unfolding shapeRefusal
     long h = rw (k, lt-ltb _ _ h)
 
-    shaped : size a ≤ nameLimit → shapeRefusal s a ≡ none
+    shaped : size a ≤ limit s → shapeRefusal s a ≡ none
     unfolding shapeRefusal
     shaped h = rw (k, le-ltb _ _ h)
 
@@ -46,8 +46,8 @@ returns c =
     let a = entered (z .kind) (z .first .now) (z .second .now) in
     ap checkedBy (sym (kind-not (z .s) a (sym (c .before .is-bad-kind .ensures) ∙ c .if1 .taken)))
 
-name-limit-requires : tie.Need-name-limit-requires
-name-limit-requires c κs = search needs
+limit-requires : tie.Need-limit-requires
+limit-requires c κs = search needs
 
 add-if2 : tie.Need-add-if2
 add-if2 c = search needs
@@ -56,13 +56,13 @@ returns-2 : tie.Need-returns-2
 returns-2 c =
     let z = c .before .before .before .before .before .before .args in
     let a = entered (z .kind) (z .first .now) (z .second .now) in
-    ap checkedBy (sym (long (z .s) a (kinded (c .before .before)) (omega (arith, c .if2 .taken, c .before .name-limit .ensures))))
+    ap checkedBy (sym (long (z .s) a (kinded (c .before .before)) (omega (arith, c .if2 .taken, c .before .limit .ensures))))
 
 returns-3 : tie.Need-returns-3
 returns-3 c =
     let z = c .before .before .before .before .before .before .args in
     let a = entered (z .kind) (z .first .now) (z .second .now) in
-    ap checkedBy (sym (shaped (z .s) a (kinded (c .before .before)) (omega (arith, c .if2 .left, c .before .name-limit .ensures))))
+    ap checkedBy (sym (shaped (z .s) a (kinded (c .before .before)) (omega (arith, c .if2 .left, c .before .limit .ensures))))
 
 pub check-shape-spec : {M : Type 1} → statement M
-check-shape-spec = tie.close (tie.spec is-bad-kind-requires returns name-limit-requires add-if2 returns-2 returns-3)
+check-shape-spec = tie.close (tie.spec is-bad-kind-requires returns limit-requires add-if2 returns-2 returns-3)

@@ -3,7 +3,7 @@ use mathlib.Core.Path.{_≡_, refl}
 use native.Mathlib.Omega.{arith}
 use borrow.Author.Needs.{needs}
 use Rattle.slices.specs.Bytes.{Bytes}
-use Rattle.limits.specs.Limits.{nameLimit}
+use Rattle.layout.proofs.Ranges.{page-size, limit-fits}
 use Rattle.parts.specs.declared.Mode.the-variants.{Tag}
 use Rattle.parts.proofs.Laws.{length-bytes}
 use Rattle.bytes_index.specs.Search.{keyOf}
@@ -21,10 +21,9 @@ hash-requires : tie.Need-hash-requires
 hash-requires c κs = search needs
 
 find-key-requires : tie.Need-find-key-requires
-unfolding nameLimit
 find-key-requires c κs =
     let z = c .before .before .before .before .before in
-    (z .pre .0, c .hash .ensures, omega (arith, length-bytes Tag (z .args .tag .now), z .pre .1))
+    (z .pre .0, c .hash .ensures, omega (arith, length-bytes Tag (z .args .tag .now), z .pre .1, page-size (z .args .s) (z .pre .0 .ranged), limit-fits (z .args .s) (z .pre .0 .ranged)))
 
 returns : tie.Need-returns
 returns c =

@@ -9,7 +9,7 @@ use lib.ListN.{length}
 use borrow.Author.Needs.{needs}
 use borrow.Author.Tests.{lt-ltb, le-ltb, not-true, not-false}
 use Rattle.slices.specs.Bytes.{Bytes, isEmpty}
-use Rattle.limits.specs.Limits.{nameLimit}
+use Rattle.layout.specs.Sizes.{nameLimit}
 use Rattle.utf8.specs.Text.{isText}
 use Rattle.refusals.specs.declared.Refusal.the-variants.{TooLong, NotText, NoTag}
 use Rattle.string_dv_dict.specs.Packed.{pairRefusal}
@@ -43,33 +43,32 @@ module _ (text tag : Bytes) where
 
 -- What is known behind each test.
 size : (c : tie.Else1) →
-    let z = c .before .before .before .before .args in
+    let z = c .before .before .before .args in
     length (z .text .now) + length (z .tag .now) ≤ nameLimit
-size c = omega (arith, c .if1 .left, c .before .name-limit .ensures)
+unfolding nameLimit
+size c = omega (arith, c .if1 .left)
 
-text-is : (c : tie.Else2) → isText (c .before .before .before .before .before .before .args .text .now) ≡ true
+text-is : (c : tie.Else2) → isText (c .before .before .before .before .before .args .text .now) ≡ true
 text-is c = sym (c .before .is-text .ensures) ∙ not-false _ (c .if2 .left)
 
-tag-is : (c : tie.Else3) → isText (c .before .before .before .before .before .before .before .before .args .tag .now) ≡ true
+tag-is : (c : tie.Else3) → isText (c .before .before .before .before .before .before .before .args .tag .now) ≡ true
 tag-is c = sym (c .before .is-text2 .ensures) ∙ not-false _ (c .if3 .left)
-
-name-limit-requires : tie.Need-name-limit-requires
-name-limit-requires c κs = search needs
 
 add-if1 : tie.Need-add-if1
 add-if1 c = search needs
 
 returns : tie.Need-returns
+unfolding nameLimit
 returns c =
-    let z = c .before .before .before .before .args in
-    ap checkedBy (sym (long (z .text .now) (z .tag .now) (omega (arith, c .if1 .taken, c .before .name-limit .ensures))))
+    let z = c .before .before .before .args in
+    ap checkedBy (sym (long (z .text .now) (z .tag .now) (omega (arith, c .if1 .taken))))
 
 is-text-requires : tie.Need-is-text-requires
 is-text-requires c κs = search needs
 
 returns-2 : tie.Need-returns-2
 returns-2 c =
-    let z = c .before .before .before .before .before .before .args in
+    let z = c .before .before .before .before .before .args in
     ap checkedBy (sym (text-not (z .text .now) (z .tag .now) (size (c .before .before)) (sym (c .before .is-text .ensures) ∙ not-true _ (c .if2 .taken))))
 
 is-text-requires-2 : tie.Need-is-text-requires-2
@@ -78,19 +77,19 @@ is-text-requires-2 c κs = search needs
 returns-3 : tie.Need-returns-3
 returns-3 c =
     let e = c .before .before in
-    let z = e .before .before .before .before .before .before .args in
+    let z = e .before .before .before .before .before .args in
     ap checkedBy (sym (tag-not (z .text .now) (z .tag .now) (size (e .before .before)) (text-is e) (sym (c .before .is-text2 .ensures) ∙ not-true _ (c .if3 .taken))))
 
 returns-4 : tie.Need-returns-4
 returns-4 c =
     let e = c .before .before .before in
-    let z = e .before .before .before .before .before .before .args in
+    let z = e .before .before .before .before .before .args in
     ap checkedBy (sym (no-tag (z .text .now) (z .tag .now) (size (e .before .before)) (text-is e) (tag-is (c .before)) (c .if4 .taken)))
 
 returns-5 : tie.Need-returns-5
 returns-5 c =
     let e = c .before .before .before in
-    let z = e .before .before .before .before .before .before .args in
+    let z = e .before .before .before .before .before .args in
     ap checkedBy
     (sym
     (is-legal (z .text .now) (z .tag .now)
@@ -105,7 +104,6 @@ pub check-pair-spec : {M : Type 1} → statement M
 check-pair-spec =
     tie.close
     (tie.spec
-    name-limit-requires
     add-if1
     returns
     is-text-requires

@@ -9,6 +9,7 @@ use borrow.Author.Tests.{not-true, not-false}
 use Rattle.slices.specs.Bytes.{Bytes}
 use Rattle.slices.proofs.Tests.{clash}
 use Rattle.utf8.specs.Text.{isText}
+use Rattle.layout.specs.Sizes.{nameLimit}
 use Rattle.string_dv_dict.specs.Packed.{LegalTagged, textIn, tagIn, accepted}
 use Rattle.string_dv_dict.proofs.Laws.{filled, legal, is-legal, unpack-pack}
 use Rattle.string_dv_dict.proofs.Located.{to-end, long-text, long-is-text, long-low, long-high, long-taken, taken-form, cut-form}
@@ -35,22 +36,19 @@ part-text-start c = search needs
 part-text-end : tie.Need-part-text-end
 part-text-end c = search needs
 
-name-limit-requires : tie.Need-name-limit-requires
-name-limit-requires c κs = search needs
-
 add-if2 : tie.Need-add-if2
 add-if2 c =
-    let z = c .before .before .before .before in
+    let z = c .before .before .before in
     let form = z .args .form .now in
     let at = z .args .end + 2 in
     omega (arith, long-low (z .pre), ap length (to-end form at), length-drop at form, z .pre .within, z .good)
 
 returns-2 : tie.Need-returns-2
+unfolding nameLimit
 returns-2 c =
-    let n = c .before in
-    let z = n .before .before .before .before in
+    let z = c .before .before .before .before in
     cut-form (z .args .form .now)
-    (λ p. omega (arith, pair (z .args .form .now) p .size, c .if2 .taken, n .name-limit .ensures, ap length (long-text (z .pre)), z .pre .tagLength))
+    (λ p. omega (arith, pair (z .args .form .now) p .size, c .if2 .taken, ap length (long-text (z .pre)), z .pre .tagLength))
 
 is-text-requires : tie.Need-is-text-requires
 is-text-requires c κs = search needs
@@ -58,7 +56,7 @@ is-text-requires c κs = search needs
 returns-3 : tie.Need-returns-3
 returns-3 c =
     let a = c .before in
-    let z = a .before .before .before .before .before .before in
+    let z = a .before .before .before .before .before in
     cut-form (z .args .form .now)
     (λ p. clash (pair (z .args .form .now) p .text-is) (ap isText (sym (long-text (z .pre))) ∙ sym (a .is-text .ensures) ∙ not-true _ (c .if3 .taken)))
 
@@ -80,18 +78,18 @@ is-text-requires-2 c κs = search needs
 returns-4 : tie.Need-returns-4
 returns-4 c =
     let a = c .before in
-    let z = a .before .before .before .before .before .before .before .before .before in
+    let z = a .before .before .before .before .before .before .before .before in
     cut-form (z .args .form .now)
     (λ p. clash (pair (z .args .form .now) p .tag-is) (sym (long-is-text (z .pre)) ∙ sym (a .is-text2 .ensures) ∙ not-true _ (c .if4 .taken)))
 
 returns-5 : tie.Need-returns-5
+unfolding nameLimit
 returns-5 c =
     let a = c .before in
     let d = a .before .before in
     let t = d .before in
     let l = t .before in
-    let n = l .before in
-    let e = n .before .before in
+    let e = l .before .before in
     let z = e .before .before in
     let h = z .pre in
     let form = z .args .form .now in
@@ -100,7 +98,7 @@ returns-5 c =
     (long-taken h (e .if1 .left)
     (is-legal (textIn form) (tagIn form)
     (record {
-      size = omega (arith, l .if2 .left, n .name-limit .ensures, ap length (long-text h), h .tagLength);
+      size = omega (arith, l .if2 .left, ap length (long-text h), h .tagLength);
       text-is = ap isText (sym (long-text h)) ∙ sym (t .is-text .ensures) ∙ not-false _ (d .if3 .left);
       tag-is = sym (long-is-text h) ∙ sym (a .is-text2 .ensures) ∙ not-false _ (c .if4 .left);
       tagged = filled (tagIn form) (omega (arith, e .if1 .left, h .tagLength));
@@ -115,7 +113,6 @@ locate-long-spec =
     sub-text
     part-text-start
     part-text-end
-    name-limit-requires
     add-if2
     returns-2
     is-text-requires

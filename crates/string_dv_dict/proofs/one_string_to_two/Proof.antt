@@ -4,27 +4,26 @@ use mathlib.Core.Path.{_≡_, sym, _∙_}
 use native.Mathlib.Omega.{arith}
 use lib.ListN.{length}
 use borrow.Author.Needs.{needs}
-use Rattle.limits.specs.Limits.{packedLimit}
+use Rattle.layout.specs.Sizes.{packedLimit}
 use Rattle.string_dv_dict.specs.declared.Form.{Form}
 use Rattle.string_dv_dict.proofs.Located.{Located, form-parts}
 use Rattle.string_dv_dict.proofs.Answers.{unpack-long-form, unpack-cut}
 use Rattle.string_dv_dict.proofs.one_string_to_two.Statement.{statement}
 use Rattle.string_dv_dict.proofs.one_string_to_two.Tie as tie
 
-size : (c : tie.Else1) → length (c .before .before .before .before .args .form .now) ≤ packedLimit
-size c = omega (arith, c .if1 .left, c .before .packed-limit .ensures)
+size : (c : tie.Else1) → length (c .before .before .before .args .form .now) ≤ packedLimit
+unfolding packedLimit
+size c = omega (arith, c .if1 .left)
 
 -- What was located, by the answer.
-located : (c : tie.After-locate) (r : Form) → c .locate .result ≡ r → Located (c .before .before .before .before .before .args .form .now) r
-located c r e = form-parts (c .before .before .before .before .before .args .form .now) r (sym (c .locate .ensures) ∙ e)
-
-packed-limit-requires : tie.Need-packed-limit-requires
-packed-limit-requires c κs = search needs
+located : (c : tie.After-locate) (r : Form) → c .locate .result ≡ r → Located (c .before .before .before .before .args .form .now) r
+located c r e = form-parts (c .before .before .before .before .args .form .now) r (sym (c .locate .ensures) ∙ e)
 
 returns : tie.Need-returns
+unfolding packedLimit
 returns c =
-    let z = c .before .before .before .before .args in
-    let p = unpack-long-form (z .form .now) (z .buffer .now) (omega (arith, c .if1 .taken, c .before .packed-limit .ensures)) in
+    let z = c .before .before .before .args in
+    let p = unpack-long-form (z .form .now) (z .buffer .now) (omega (arith, c .if1 .taken)) in
     (sym (p .0), sym (p .1))
 
 locate-requires : tie.Need-locate-requires
@@ -66,7 +65,7 @@ returns-3 c = search needs
 returns-4 : tie.Need-returns-4
 returns-4 c =
     let a = c .before .before in
-    let z = a .before .before .before .before .before .args in
+    let z = a .before .before .before .before .args in
     let p = unpack-cut (z .form .now) (z .buffer .now) (size (a .before)) (located a _ (c .enum-told .given .1)) in
     (sym (p .0), sym (p .1))
 
@@ -74,7 +73,6 @@ pub one-string-to-two-spec : {M : Type 1} → statement M
 one-string-to-two-spec =
     tie.close
     (tie.spec
-    packed-limit-requires
     returns
     locate-requires
     enum-known-n

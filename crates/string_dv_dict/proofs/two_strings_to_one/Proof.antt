@@ -5,7 +5,7 @@ use mathlib.Core.Option.{none}
 use native.Mathlib.Omega.{arith}
 use lib.ListN.{length}
 use borrow.Author.Needs.{needs}
-use Rattle.limits.specs.Limits.{packedLimit}
+use Rattle.layout.specs.Sizes.{packedLimit}
 use Rattle.parts.specs.declared.Mode.the-variants.{Tag}
 use Rattle.parts.specs.Parts.{bytesOf}
 use Rattle.string_dv_dict.specs.Packed.{packed, pairRefusal}

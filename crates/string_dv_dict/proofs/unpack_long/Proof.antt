@@ -4,7 +4,7 @@ use mathlib.Core.Path.{sym, ap, _∙_}
 use native.Mathlib.Omega.{arith}
 use lib.ListN.{length}
 use borrow.Author.Needs.{needs}
-use Rattle.limits.specs.Limits.{nameLimit}
+use Rattle.layout.specs.Sizes.{nameLimit}
 use Rattle.parts.specs.Parts.{bytesOf}
 use Rattle.string_dv_dict.specs.Packed.{textIn, tagIn}
 use Rattle.string_dv_dict.proofs.Laws.{legal, unpack-pack}
