@@ -13,12 +13,11 @@ use Rattle.layout.specs.declared.Header.the-variants as H
 use Rattle.layout.specs.Header.{headerOf, sizesIn}
 use Rattle.model.specs.Names.{Name}
 use Rattle.model.specs.Answers.{AddAnswer}
-use Rattle.model.specs.Steps.{checks}
+use Rattle.model.specs.Steps.{shapeRefusal, textRefusal, checks}
 use Rattle.model.proofs.Decide.{decided-illegal}
 use Rattle.memory.specs.Promises.{AddPost}
 use Rattle.memory.proofs.Beyond.{beyond-same}
-use Rattle.names.specs.Checks.{shapeRefusal, textRefusal}
-use Rattle.names.proofs.Checks.{text-decides}
+use Rattle.model.proofs.Legal.{text-decides}
 use Rattle.enter.specs.Added.{Added, Judged}
 use Rattle.enter.proofs.Judges.{judge}
 use Rattle.dictionary.proofs.Headers.{no-state, sizes-read, not-always, one-sizes}

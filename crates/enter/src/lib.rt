@@ -25,7 +25,7 @@ ghost use Rattle.bytes_index.specs.Search.{keyOf, Searched};
 ghost use Rattle.bytes_index.specs.declared.Probe.the-variants.{Free};
 ghost use Rattle.model.specs.Names.{entered};
 ghost use Rattle.model.specs.Kinds.{row};
-ghost use Rattle.names.specs.Checks.{textRefusal};
+ghost use Rattle.model.specs.Steps.{textRefusal};
 ghost use Rattle.enter.specs.Answers.{addedBy, spotChecked, blockRefused, Stamps, Knows, Reserves, Plans};
 ghost use Rattle.enter.specs.Added.{Lent, Added, Judged, HasKey};
 

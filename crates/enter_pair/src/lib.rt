@@ -29,7 +29,7 @@ ghost use Rattle.bytes_index.specs.declared.Probe.the-variants.{Free};
 ghost use Rattle.model.specs.Names.{entered};
 ghost use Rattle.model.specs.Answers.{AddAnswer};
 ghost use Rattle.model.specs.Kinds.{row};
-ghost use Rattle.names.specs.Checks.{shapeRefusal, textRefusal};
+ghost use Rattle.model.specs.Steps.{shapeRefusal, textRefusal};
 ghost use Rattle.enter.specs.Answers.{addedBy};
 ghost use Rattle.enter.specs.Added.{Lent, Added, Judged, HasKey, HasPair};
 ghost use Rattle.enter_pair.specs.Plans.{PlansPair, PairPlanFits, pairPages, pairLists};

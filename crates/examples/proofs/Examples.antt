@@ -11,11 +11,11 @@ use Rattle.bytes_buffer.specs.Pages.{fits, grown, grownAt, allPages}
 use Rattle.meta_dv_dict.specs.Rule.{blockRule}
 use Rattle.meta_dv_dict.specs.Blocks.{pick}
 use Rattle.model.specs.State.{numberOf}
-use Rattle.model.specs.Steps.{checks, room, decide, extended}
+use Rattle.model.specs.Steps.{shapeRefusal, textRefusal, checks, room, decide, extended}
 use Rattle.examples.specs.Examples.{Examples}
 
 pub examples : Examples
-unfolding nameLimit limit blockRule firstOf isText escape escaped headOf furtherBytes frequentId fid writeRefusal writeAnswer writeBuffer packed pairRefusal packAnswer packBuffer fits grown grownAt allPages pick numberOf checks room decide extended
+unfolding nameLimit limit blockRule firstOf isText escape escaped headOf furtherBytes frequentId fid writeRefusal writeAnswer writeBuffer packed pairRefusal packAnswer packBuffer fits grown grownAt allPages pick numberOf shapeRefusal textRefusal checks room decide extended
 examples = record {
   m1-m3 = refl;
   m1-m2-rests = refl;

@@ -65,7 +65,7 @@ moved-le k rest m (inr h) = omega arith
 module _ (s : Sizes) (a : Name) (passes : checks s a ≡ none) (k : ℕ) (q : a .kind ≡ k) where
   joined-iri : k ≡ 0 → (row k .head a ++ row k .rest a ≡ a .first ++ a .second) × (row k .head a ++ row k .rest a ≡ a .first) × (a .second ≡ [])
   joined-iri z =
-      let t : a .second ≡ [] = legal s a passes .second (rw (q, z)) in
+      let t : a .second ≡ [] = legal s a passes .shape .second (rw (q, z)) in
       let f : row k .head a ++ row k .rest a ≡ a .first = rw z (take-append-drop (headLength (a .first)) (a .first)) in
       (f ∙ rw t (sym (append-nil (a .first))), f, t)
 

@@ -61,7 +61,7 @@ module _ (s : Sizes) (pages lists : Bytes) (at len : ℕ) (there : pageBytes s �
           small = omega arith;
         };
         right = λ st a S p q old h.
-            let t : a .second ≡ [] = legal s a p .second (rw q) in
+            let t : a .second ≡ [] = legal s a p .shape .second (rw q) in
             let b : take len (drop at pages) ≡ a .first = rw q at h in
             record { kind = sym q; first = sym l ∙ ap length b; second = sym (ap length t); bytes = rw (b, t) };
       }

@@ -28,13 +28,13 @@ module _ (s : Sizes) (a b : Name) (p : checks s a ≡ none) (q : checks s b ≡ 
   row-same : (k : ℕ) → a .kind ≡ k → b .kind ≡ k → (row k .paired ≡ true → row k .head a ≡ row k .head b) → row k .rest a ≡ row k .rest b → a ≡ b
   row-same zero x y h r =
       let f : a .first ≡ b .first = cc (h refl, take-append-drop (headLength (a .first)) (a .first), take-append-drop (headLength (b .first)) (b .first)) in
-      equal (x ∙ sym y) f (legal s a p .second (rw x) ∙ sym (legal s b q .second (rw y)))
-  row-same (suc zero) x y h r = equal (x ∙ sym y) r (legal s a p .second (rw x) ∙ sym (legal s b q .second (rw y)))
+      equal (x ∙ sym y) f (legal s a p .shape .second (rw x) ∙ sym (legal s b q .shape .second (rw y)))
+  row-same (suc zero) x y h r = equal (x ∙ sym y) r (legal s a p .shape .second (rw x) ∙ sym (legal s b q .shape .second (rw y)))
   row-same (suc (suc zero)) x y h r =
       let k = packed-same (a .first) (a .second) (b .first) (b .second) (legal s a p .tag (rw x)) (legal s b q .tag (rw y)) r in
       equal (x ∙ sym y) (k .0) (k .1)
   row-same (suc (suc (suc zero))) x y h r = equal (x ∙ sym y) (h refl) r
-  row-same (suc (suc (suc (suc k)))) x y h r = equal (x ∙ sym y) r (legal s a p .second (rw x) ∙ sym (legal s b q .second (rw y)))
+  row-same (suc (suc (suc (suc k)))) x y h r = equal (x ∙ sym y) r (legal s a p .shape .second (rw x) ∙ sym (legal s b q .shape .second (rw y)))
 
   pub names-same : a .kind ≡ b .kind → (row (a .kind) .paired ≡ true → row (a .kind) .head a ≡ row (a .kind) .head b)
       → row (a .kind) .rest a ≡ row (a .kind) .rest b → a ≡ b

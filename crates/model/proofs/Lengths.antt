@@ -31,15 +31,15 @@ head-length (suc (suc (suc (suc k)))) a = omega arith
 
 module _ (s : Sizes) (a : Name) (e : checks s a ≡ none) where
   rest-length : (k : ℕ) → length (row k .rest a) ≤ 2 + 2 * limit s
-  rest-length zero = omega (arith, length-drop (headLength (a .first)) (a .first), legal s a e .size)
-  rest-length (suc zero) = omega (arith, legal s a e .size)
-  rest-length (suc (suc zero)) = omega (arith, packed-at-most (a .first) (a .second), legal s a e .size)
-  rest-length (suc (suc (suc zero))) = omega (arith, legal s a e .size)
-  rest-length (suc (suc (suc (suc k)))) = omega (arith, legal s a e .size)
+  rest-length zero = omega (arith, length-drop (headLength (a .first)) (a .first), legal s a e .shape .size)
+  rest-length (suc zero) = omega (arith, legal s a e .shape .size)
+  rest-length (suc (suc zero)) = omega (arith, packed-at-most (a .first) (a .second), legal s a e .shape .size)
+  rest-length (suc (suc (suc zero))) = omega (arith, legal s a e .shape .size)
+  rest-length (suc (suc (suc (suc k)))) = omega (arith, legal s a e .shape .size)
 
   module _ (r : InRange s) where
     pub head-short : length (headOf a) ≤ pageSize s
-    head-short = omega (arith, legal s a e .size, head-length (a .kind) a, limit-fits s r)
+    head-short = omega (arith, legal s a e .shape .size, head-length (a .kind) a, limit-fits s r)
 
     pub key-short : (hs : List Bytes) → length (keyOf hs a) ≤ pageSize s
     key-short hs = go (split (row (a .kind) .paired))

@@ -34,12 +34,23 @@ openAnswer s pages lists =
 abbrev pub badKind : Name → Bool
 badKind a = leb kinds (a .kind) || (row (a .kind) .noSecond && not (isEmpty (a .second)))
 
+-- Of the name's shape: 4, 5.
+unfoldable pub shapeRefusal : Sizes → Name → Option Refusal
+shapeRefusal s a = cond (badKind a) (some BadKind) (cond (ltb (limit s) (size a)) (some TooLong) none)
+
+-- Of its text: 6, 7.
+unfoldable pub textRefusal : Name → Option Refusal
+textRefusal a =
+    cond (not (isText (a .first) && isText (a .second))) (some NotText)
+    (cond (row (a .kind) .needsTag && isEmpty (a .second)) (some NoTag) none)
+
+-- The shape's refusal, if there is one, else the text's.
+abbrev pub refusedFirst : Option Refusal → Option Refusal → Option Refusal
+refusedFirst (some why) o = some why
+refusedFirst none o = o
+
 unfoldable pub checks : Sizes → Name → Option Refusal
-checks s a =
-    cond (badKind a) (some BadKind)
-    (cond (ltb (limit s) (size a)) (some TooLong)
-    (cond (not (isText (a .first) && isText (a .second))) (some NotText)
-    (cond (row (a .kind) .needsTag && isEmpty (a .second)) (some NoTag) none)))
+checks s a = refusedFirst (shapeRefusal s a) (textRefusal a)
 
 -- ---- the entries that a new name makes in its kind's part
 

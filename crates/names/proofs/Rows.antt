@@ -4,18 +4,27 @@ use mathlib.Core.Path.{_≡_, refl, sym}
 use mathlib.Core.Bool.{true, false}
 use mathlib.Core.List.{[], _∷_}
 use mathlib.Core.Logic.{_≢_}
+use mathlib.Core.Option.{none}
 use native.Mathlib.Omega.{arith}
 use borrow.Author.Tests.{ne-eqb}
 use lib.Dec.{eqb}
 use lib.ListN.{length}
 use Rattle.slices.specs.Bytes.{Bytes, isEmpty}
+use Rattle.layout.specs.declared.Sizes.{Sizes}
 use Rattle.layout.specs.Sizes.{kinds}
+use Rattle.model.specs.Names.{Name}
 use Rattle.model.specs.Kinds.{row}
+use Rattle.model.specs.Steps.{shapeRefusal}
+use Rattle.model.proofs.Legal.{legal-shape}
 
 pub one-part : (k : ℕ) → k < 2 → row k .noSecond ≡ true
 one-part zero h = refl
 one-part (suc zero) h = refl
 one-part (suc (suc k)) h = absurd (omega arith)
+
+-- Such a name of legal shape has no second part.
+pub shape-second : (s : Sizes) (a : Name) → shapeRefusal s a ≡ none → a .kind < 2 → a .second ≡ []
+shape-second s a e l = legal-shape s a e .second (one-part (a .kind) l)
 
 pub two-parts : (k : ℕ) → 2 ≤ k → k < kinds → row k .noSecond ≡ false
 two-parts zero h l = absurd (omega arith)

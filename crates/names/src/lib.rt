@@ -16,8 +16,7 @@ ghost use Rattle.utf8.specs.Text.{isText};
 ghost use Rattle.refusals.specs.Checked.{checkedBy};
 ghost use Rattle.model.specs.Names.{entered};
 ghost use Rattle.model.specs.Kinds.{row};
-ghost use Rattle.model.specs.Steps.{badKind};
-ghost use Rattle.names.specs.Checks.{shapeRefusal, textRefusal};
+ghost use Rattle.model.specs.Steps.{badKind, shapeRefusal, textRefusal};
 ghost use Rattle.names.specs.Given.{headSize, restBehind};
 
 pub const IRI: usize = 0;

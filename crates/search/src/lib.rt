@@ -19,7 +19,7 @@ ghost use Rattle.parts.specs.Parts.{bytesOf};
 ghost use Rattle.bytes_index.specs.Search.{keyOf, Searched};
 ghost use Rattle.model.specs.Names.{entered};
 ghost use Rattle.model.specs.Kinds.{row};
-ghost use Rattle.names.specs.Checks.{shapeRefusal};
+ghost use Rattle.model.specs.Steps.{shapeRefusal};
 ghost use Rattle.search.specs.Found.{Lent, FindsKey, FindsName, IsPair};
 
 // A name's local number. Bad: the memory is no dictionary's.

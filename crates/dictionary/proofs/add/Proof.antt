@@ -6,8 +6,8 @@ use Rattle.layout.specs.declared.Header.the-variants.{Opened}
 use Rattle.layout.specs.Header.{headerOf}
 use Rattle.refusals.proofs.Told.{told-legal, told-illegal}
 use Rattle.model.specs.Names.{entered}
-use Rattle.names.specs.Checks.{shapeRefusal}
-use Rattle.names.proofs.Checks.{shape-refused, shape-kind}
+use Rattle.model.specs.Steps.{shapeRefusal}
+use Rattle.model.proofs.Legal.{legal-shape, shape-refused}
 use Rattle.enter.specs.Added.{Lent}
 use Rattle.dictionary.proofs.Headers.{header, in-range}
 use Rattle.dictionary.proofs.Adds.{add-unopened, add-illegal, add-judged}
@@ -38,7 +38,7 @@ lent c =
       ranged = in-range (a .pages .now) (a .lists .now) s (opened (c .before .before .before .before));
       pages-fit = h .pages-fit;
       lists-fit = h .lists-fit;
-      kinded = shape-kind s (entered (a .kind) (a .first .now) (a .second .now)) (shaped c);
+      kinded = legal-shape s (entered (a .kind) (a .first .now) (a .second .now)) (shaped c) .kind;
     }
 
 check-header-requires : tie.Need-check-header-requires

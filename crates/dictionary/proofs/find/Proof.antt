@@ -8,9 +8,8 @@ use Rattle.layout.specs.Header.{headerOf}
 use Rattle.meta_dv_dict.specs.Answers.{Globals}
 use Rattle.refusals.proofs.Told.{told-legal, told-illegal}
 use Rattle.model.specs.Names.{entered}
-use Rattle.model.specs.Steps.{checks}
-use Rattle.names.specs.Checks.{shapeRefusal}
-use Rattle.names.proofs.Checks.{shape-refused, text-decides, shape-kind}
+use Rattle.model.specs.Steps.{shapeRefusal, checks}
+use Rattle.model.proofs.Legal.{legal-shape, shape-refused, text-decides}
 use Rattle.search.specs.declared.Search.the-variants.{Found}
 use Rattle.search.specs.Found.{Lent, FindsName}
 use Rattle.dictionary.proofs.Headers.{header, in-range}
@@ -45,7 +44,7 @@ lent c =
       ranged = in-range (a .pages .now) (a .lists .now) s (opened o);
       pages-fit = h .pages-fit;
       lists-fit = h .lists-fit;
-      kinded = shape-kind s (entered (a .kind) (a .first .now) (a .second .now)) (shaped c);
+      kinded = legal-shape s (entered (a .kind) (a .first .now) (a .second .now)) (shaped c) .kind;
     }
 
 -- The whole name is legal.

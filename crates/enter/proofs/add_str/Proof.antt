@@ -12,7 +12,7 @@ use Rattle.bytes_dictionary.proofs.Keys.{length-key}
 use Rattle.refusals.proofs.Told.{told-legal, told-illegal}
 use Rattle.model.specs.Names.{entered}
 use Rattle.model.specs.Kinds.{row}
-use Rattle.names.specs.Checks.{textRefusal}
+use Rattle.model.specs.Steps.{textRefusal}
 use Rattle.enter.specs.Added.{HasKey}
 use Rattle.enter.proofs.Adds.{added-foreign, added-known}
 use Rattle.enter.proofs.Judges.{judged, judged-refused}

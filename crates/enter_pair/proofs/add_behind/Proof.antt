@@ -13,7 +13,7 @@ use Rattle.parts.specs.declared.Mode.the-variants.{Raw}
 use Rattle.ranked_pair_dictionary.specs.FrequentId.{fid}
 use Rattle.bytes_index.specs.Search.{keyOf}
 use Rattle.model.specs.Names.{entered}
-use Rattle.names.specs.Checks.{textRefusal}
+use Rattle.model.specs.Steps.{textRefusal}
 use Rattle.enter.specs.Answers.{addedBy}
 use Rattle.enter.specs.Added.{Judged, HasKey}
 use Rattle.search.proofs.Leads.{raw-hash, lead-short, lead-length, never-refused, lead-key}

@@ -17,11 +17,11 @@ use Rattle.model.specs.Names.{Name, entered}
 use Rattle.model.specs.Kinds.{row}
 use Rattle.model.specs.State.{State}
 use Rattle.model.specs.Answers.{AddAnswer}
-use Rattle.names.specs.Checks.{textRefusal}
+use Rattle.model.specs.Steps.{textRefusal}
 use Rattle.names.specs.Given.{restBehind}
 use Rattle.utf8.specs.Text.{isText}
-use Rattle.names.proofs.Checks.{shape-size, shape-second}
-use Rattle.names.proofs.Rows.{paired}
+use Rattle.model.proofs.Legal.{legal-shape}
+use Rattle.names.proofs.Rows.{paired, shape-second}
 use Rattle.names.proofs.Pairs.{is-pair}
 use Rattle.search.proofs.Leads.{whole-hash, scanned-hash}
 use Rattle.search.proofs.Plain.{plain-text, pair-plain}
@@ -82,7 +82,7 @@ add-str-requires c κs =
     let x = c .before .before .before .scan in (
       other-kind _ _ _ _ _ (z .pre .0) (t .if1 .taken),
       (
-        plain-short (a .s) (a .first .now) (a .second .now) (z .pre .0 .ranged) (shape-size (a .s) (entered (a .kind) (a .first .now) (a .second .now)) (z .pre .1)),
+        plain-short (a .s) (a .first .now) (a .second .now) (z .pre .0 .ranged) (legal-shape (a .s) (entered (a .kind) (a .first .now) (a .second .now)) (z .pre .1) .size),
         (
           whole-hash (a .first .now) (x .result .h) (scanned-hash _ _ (x .ensures .0)),
           λ p. (
@@ -113,7 +113,7 @@ add-tagged-requires : tie.Need-add-tagged-requires
 add-tagged-requires c κs =
     let t = c .before .before in
     let z = t .before .before .before .before .before .before in
-    (other-kind _ _ _ _ _ (z .pre .0) (t .if2 .taken), shape-size _ _ (z .pre .1))
+    (other-kind _ _ _ _ _ (z .pre .0) (t .if2 .taken), legal-shape _ _ (z .pre .1) .size)
 
 same-length-3 : tie.Need-same-length-3
 same-length-3 c = search needs
@@ -152,7 +152,7 @@ add-pair-requires c κs =
         other-kind _ _ _ _ _ (z .pre .0) refl,
         has-heads (h .before),
         subst (λ (y : Bytes). length (take n (a .first .now)) + length y ≤ limit (a .s)) (sym (b .rest-behind .ensures))
-            (parts-short (a .kind) (a .first .now) (a .second .now) n (limit (a .s)) (h .head-length .ensures .1) (shape-size (a .s) N (z .pre .1))),
+            (parts-short (a .kind) (a .first .now) (a .second .now) n (limit (a .s)) (h .head-length .ensures .1) (legal-shape (a .s) N (z .pre .1) .size)),
       ),
       pair-plain (a .kind) (a .first .now) (a .second .now) _ n (h .head-length .ensures .0) (h .head-length .ensures .1) (b .rest-behind .ensures) (shape-second (a .s) N (z .pre .1)),
     )

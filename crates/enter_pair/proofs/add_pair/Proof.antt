@@ -10,7 +10,7 @@ use Rattle.bytes_index.specs.Search.{Searched}
 use Rattle.refusals.proofs.Told.{told-legal, told-illegal}
 use Rattle.model.specs.Names.{entered}
 use Rattle.model.specs.Kinds.{row}
-use Rattle.names.specs.Checks.{textRefusal}
+use Rattle.model.specs.Steps.{textRefusal}
 use Rattle.enter.specs.Added.{HasPair}
 use Rattle.enter.proofs.Judges.{judged, judged-refused, judged-map}
 use Rattle.search.proofs.Leads.{scanned-hash}

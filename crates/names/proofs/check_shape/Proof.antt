@@ -11,8 +11,7 @@ use Rattle.refusals.specs.declared.Refusal.the-variants.{BadKind, TooLong}
 use Rattle.layout.specs.declared.Sizes.{Sizes}
 use Rattle.refusals.specs.Checked.{checkedBy}
 use Rattle.model.specs.Names.{Name, entered, size}
-use Rattle.model.specs.Steps.{badKind}
-use Rattle.names.specs.Checks.{shapeRefusal}
+use Rattle.model.specs.Steps.{badKind, shapeRefusal}
 use Rattle.names.proofs.check_shape.Statement.{statement}
 use Rattle.names.proofs.check_shape.Tie as tie
 

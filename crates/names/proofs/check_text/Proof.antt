@@ -12,7 +12,7 @@ use Rattle.refusals.specs.declared.Refusal.the-variants.{NotText, NoTag}
 use Rattle.refusals.specs.Checked.{checkedBy}
 use Rattle.model.specs.Names.{Name, entered}
 use Rattle.model.specs.Kinds.{row}
-use Rattle.names.specs.Checks.{textRefusal}
+use Rattle.model.specs.Steps.{textRefusal}
 use Rattle.names.proofs.Rows.{needs-tag, empty-by-length}
 use Rattle.names.proofs.check_text.Statement.{statement}
 use Rattle.names.proofs.check_text.Tie as tie

@@ -14,8 +14,8 @@ use Rattle.bytes_index.specs.Search.{keyOf}
 use Rattle.utf8.specs.Text.{isText}
 use Rattle.model.specs.Names.{Name, entered}
 use Rattle.model.specs.Kinds.{row}
-use Rattle.names.proofs.Checks.{shape-size, shape-second}
-use Rattle.names.proofs.Rows.{paired}
+use Rattle.model.proofs.Legal.{legal-shape}
+use Rattle.names.proofs.Rows.{paired, shape-second}
 use Rattle.names.proofs.Pairs.{is-pair}
 use Rattle.search.proofs.Leads.{whole-hash, scanned-hash, raw-short}
 use Rattle.search.proofs.Plain.{plain-text, pair-plain}
@@ -68,7 +68,7 @@ returns c =
     )
 
 find-tagged-requires : tie.Need-find-tagged-requires
-find-tagged-requires c κs = let l = shape-size _ _ (c .before .before .before .before .before .before .pre .1) in search needs
+find-tagged-requires c κs = let l = legal-shape _ _ (c .before .before .before .before .before .before .pre .1) .size in search needs
 
 returns-2 : tie.Need-returns-2
 returns-2 c =
