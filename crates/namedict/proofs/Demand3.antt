@@ -13,15 +13,15 @@ use Rattle.model.specs.Names.{Name}
 use Rattle.model.specs.Answers.{AddAnswer, FindAnswer, CountAnswer}
 use Rattle.model.specs.Calls.{Event, At, Fresh, Gave, Accepted, Added, nothing, Given, Issued, ifFresh, freshKinds, howMany, Demand3}
 use Rattle.memory.specs.Lists.{Memory}
-use Rattle.memory.proofs.Demand3.{demand-3}
+use Rattle.memory.proofs.Brought.{brought-demand-3}
 use Rattle.namedict.specs.declared.NamedictNumbered.{NamedictNumbered}
 use Rattle.namedict.specs.declared.NamedictName.{NamedictName}
 use Rattle.namedict.specs.declared.NamedictCounted.{NamedictCounted}
 use Rattle.namedict.specs.Numbers.{addNumbers, findNumbers, nameNumbers, countNumbers}
 use Rattle.namedict.specs.Answers.{refusalOf, addOf, findOf, readOf, countOf}
-use Rattle.namedict.specs.Returned.{OpenReturned, ReadReturned, CountReturned, Returned, add, find, read, count, ExportedCalls, eventOf}
+use Rattle.namedict.specs.Returned.{OpenReturned, Returned, add, find, read, count, ExportedCalls, ExportedBrings, ExportedBrought, eventOf}
 use Rattle.namedict.specs.Demand3.{CallAt, GaveNumber, GaveFresh, ReturnedTo, GivenNumber, IssuedNumber, kindsOfFresh, CountAfter, NameAfter, NoneAfter, Demand3InNumbers}
-use Rattle.namedict.proofs.Calls.{open-tells, calls-tell, exact-at}
+use Rattle.namedict.proofs.Calls.{open-tells, calls-tell, exact-at, all-as-left}
 
 -- ---- what is read off the calls, and off their answers
 
@@ -90,41 +90,43 @@ accepted-in r q why e = go (split (eqb (r .word) 2))
 -- ---- from an exported open that returned 0
 
 module _ (s : Sizes) (pages lists : Bytes) (m : Memory) (O : OpenReturned s pages lists 0 (m .pages) (m .lists)) where
-  module _ (es : List Returned) (z : Memory) (c : ExportedCalls m es z) where
+  module _ (es : List Returned) (z : Memory) (c : ExportedBrought s m es z) where
     -- Demand 3 of the answers that the numbers tell.
     answered : Demand3 (nothing s) (map eventOf es)
-    answered = demand-3 s pages lists (m .pages) (m .lists) (open-tells s pages lists 0 (m .pages) (m .lists) O) (map eventOf es) z (calls-tell m z es c)
+    answered = brought-demand-3 s pages lists (m .pages) (m .lists) (open-tells s pages lists 0 (m .pages) (m .lists) O) (map eventOf es) z (calls-tell s m z es c)
 
-    pub demand-3-in-numbers : Demand3InNumbers s es
-    demand-3-in-numbers = record {
+    pub brought-demand-3-in-numbers : Demand3InNumbers s es
+    brought-demand-3-in-numbers = record {
       same = λ xs a b r n p q g. answered .same (map eventOf xs) a b (addOf r) (r .number) n (called-at (add a r) xs es p) (gave-in r (r .number) .0 (q, refl)) (given s b n xs .0 g);
       first = λ xs a r p q no.
           fresh-in r (r .number) .1 (answered .first (map eventOf xs) a (addOf r) (r .number) (called-at (add a r) xs es p) (gave-in r (r .number) .0 (q, refl)) (λ n g. no n (given s a n xs .1 g))) .1;
       later = λ xs a r n p q g.
-          exact-at m z (add a r) xs es c p ∙ ap addNumbers (answered .later (map eventOf xs) a (addOf r) (r .number) n (called-at (add a r) xs es p) (gave-in r (r .number) .0 (q, refl)) (given s a n xs .0 g));
+          exact-at s m z (add a r) xs es c p ∙ ap addNumbers (answered .later (map eventOf xs) a (addOf r) (r .number) n (called-at (add a r) xs es p) (gave-in r (r .number) .0 (q, refl)) (given s a n xs .0 g));
       find-after = λ xs a r n p q g.
-          exact-at m z (find a r) xs es c p ∙ ap findNumbers (answered .find-after (map eventOf xs) a (findOf r) n (called-at (find a r) xs es p) (accepted-in r q) (given s a n xs .0 g));
+          exact-at s m z (find a r) xs es c p ∙ ap findNumbers (answered .find-after (map eventOf xs) a (findOf r) n (called-at (find a r) xs es p) (accepted-in r q) (given s a n xs .0 g));
       find-before = λ xs a r p q no.
-          exact-at m z (find a r) xs es c p ∙ ap findNumbers (answered .find-before (map eventOf xs) a (findOf r) (called-at (find a r) xs es p) (accepted-in r q) (λ n g. no n (given s a n xs .1 g)));
+          exact-at s m z (find a r) xs es c p ∙ ap findNumbers (answered .find-before (map eventOf xs) a (findOf r) (called-at (find a r) xs es p) (accepted-in r q) (λ n g. no n (given s a n xs .1 g)));
       in-order = λ xs a r p q w.
           rw (kinds-in xs) at (answered .in-order (map eventOf xs) a (r .number) (subst (λ x. At (Event.add a x) (map eventOf xs) (map eventOf es)) (fresh-in r (r .number) .0 (q, w, refl)) (called-at (add a r) xs es p)));
       counts = λ xs k r p h.
-          exact-at m z (count k r) xs es c p ∙ ap countNumbers (answered .counts (map eventOf xs) k (countOf r) (called-at (count k r) xs es p) h ∙ ap (λ ks. CountAnswer.count (howMany 0 k ks)) (kinds-in xs));
+          exact-at s m z (count k r) xs es c p ∙ ap countNumbers (answered .counts (map eventOf xs) k (countOf r) (called-at (count k r) xs es p) h ∙ ap (λ ks. CountAnswer.count (howMany 0 k ks)) (kinds-in xs));
       read-name = λ xs n x y r p a g h.
           let w = answered .read-name (map eventOf xs) n x y (readOf r) a (called-at (read n x r y) xs es p) (issued s a n xs .0 g) h in
-          (exact-at m z (read n x r y) xs es c p ∙ ap nameNumbers (w .0), w .1);
+          (exact-at s m z (read n x r y) xs es c p ∙ ap nameNumbers (w .0), w .1);
       read-none = λ xs n x y r p no.
           let w = answered .read-none (map eventOf xs) n x y (readOf r) (called-at (read n x r y) xs es p) (λ a g. no a (issued s a n xs .1 g)) in
-          (exact-at m z (read n x r y) xs es c p ∙ ap nameNumbers (w .0), w .1);
+          (exact-at s m z (read n x r y) xs es c p ∙ ap nameNumbers (w .0), w .1);
     }
 
-  -- A count or a read after the list makes a longer list.
-  module _ (es : List Returned) (y z : Memory) (c : ExportedCalls m es y) where
-    pub count-after : (k : ℕ) (r : NamedictCounted) → CountReturned (y .pages) (y .lists) k r (z .pages) (z .lists) → CountAfter es k r
-    count-after k r d = demand-3-in-numbers (count k r ∷ es) z (y, c, d) .counts es k r (inl (refl, refl))
+  pub demand-3-in-numbers : (es : List Returned) (z : Memory) → ExportedCalls m es z → Demand3InNumbers s es
+  demand-3-in-numbers es z c = brought-demand-3-in-numbers es z (all-as-left s m z es c)
 
-    pub read-after : (n : ℕ) (b : Bytes) (r : NamedictName) (b′ : Bytes) → ReadReturned (y .pages) (y .lists) n b r b′ (z .pages) (z .lists)
-        → NameAfter es n b r b′ × NoneAfter es n b r b′
+  -- A count or a read after the list makes a longer list. By `as-left` of Calls.antt it may get the memory as the list left it.
+  module _ (es : List Returned) (y z : Memory) (c : ExportedBrought s m es y) where
+    pub count-after : (k : ℕ) (r : NamedictCounted) → ExportedBrings s y (count k r) z → CountAfter es k r
+    count-after k r d = brought-demand-3-in-numbers (count k r ∷ es) z (y, c, d) .counts es k r (inl (refl, refl))
+
+    pub read-after : (n : ℕ) (b : Bytes) (r : NamedictName) (b′ : Bytes) → ExportedBrings s y (read n b r b′) z → NameAfter es n b r b′ × NoneAfter es n b r b′
     read-after n b r b′ d =
-        let D = demand-3-in-numbers (read n b r b′ ∷ es) z (y, c, d) in
+        let D = brought-demand-3-in-numbers (read n b r b′ ∷ es) z (y, c, d) in
         (D .read-name es n b b′ r (inl (refl, refl)), D .read-none es n b b′ r (inl (refl, refl)))

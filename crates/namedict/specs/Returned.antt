@@ -8,7 +8,7 @@ use Rattle.model.specs.Names.{Name}
 use Rattle.model.specs.Answers.{OpenAnswer, AddAnswer, FindAnswer, ReadAnswer, CountAnswer}
 use Rattle.model.specs.Calls.{Event}
 use Rattle.memory.specs.Promises.{OpenPost, AddPost, FindPost, ReadPost, CountPost}
-use Rattle.memory.specs.Lists.{Memory}
+use Rattle.memory.specs.Lists.{Memory, SameDictionary}
 use Rattle.namedict.specs.declared.NamedictNumbered.{NamedictNumbered}
 use Rattle.namedict.specs.declared.NamedictName.{NamedictName}
 use Rattle.namedict.specs.declared.NamedictCounted.{NamedictCounted}
@@ -49,10 +49,18 @@ Exported m (find a r) m′ = FindReturned (m .pages) (m .lists) a r (m′ .pages
 Exported m (read n b r c) m′ = ReadReturned (m .pages) (m .lists) n b r c (m′ .pages) (m′ .lists)
 Exported m (count k r) m′ = CountReturned (m .pages) (m .lists) k r (m′ .pages) (m′ .lists)
 
--- From m the calls of the list, newest first, leave z.
+-- From m the calls of the list, newest first, leave z: each gets the memory as the one before left it.
 abbrev pub ExportedCalls : Memory → List Returned → Memory → Type 0
 ExportedCalls m [] z = z ≡ m
 ExportedCalls m (e ∷ es) z = (y : Memory) × ExportedCalls m es y × Exported y e z
+
+-- The same where each call may bring other slices, with the dictionary as the one before left it.
+abbrev pub ExportedBrings : Sizes → Memory → Returned → Memory → Type 0
+ExportedBrings s m e z = (y : Memory) × SameDictionary s m y × Exported y e z
+
+abbrev pub ExportedBrought : Sizes → Memory → List Returned → Memory → Type 0
+ExportedBrought s m [] z = z ≡ m
+ExportedBrought s m (e ∷ es) z = (y : Memory) × ExportedBrought s m es y × ExportedBrings s y e z
 
 -- The call with the answer that its numbers tell.
 abbrev pub eventOf : Returned → Event
