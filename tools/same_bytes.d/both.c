@@ -317,9 +317,18 @@ static void tally(uint64_t refusal, uint64_t which)
         tally_answer(apart, now.entry, (unsigned)which);
 }
 
-#define ON_BOTH(call)                             \
-    for (now.side = 0; now.side < 2; now.side++)  \
-        answer[now.side] = archives[now.side].call; \
+/* Fills the stack that a call is going to use: neither archive shall find there what the other left. */
+static __attribute__((noinline)) void scrub_stack(int byte)
+{
+    volatile uint8_t room[4096];
+    memset((uint8_t *)room, byte, sizeof room);
+}
+
+#define ON_BOTH(call)                                  \
+    for (now.side = 0; now.side < 2; now.side++) {     \
+        scrub_stack(now.side == 0 ? 0x00 : 0xA5);      \
+        answer[now.side] = archives[now.side].call;    \
+    }                                                  \
     end_call(&answer[0], &answer[1], sizeof answer[0])
 #define PAGES_LISTS pages.side[now.side], pages.lent, lists.side[now.side], lists.lent
 

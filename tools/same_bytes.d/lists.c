@@ -386,6 +386,33 @@ static void longest_names(void)
     end_list();
 }
 
+/* A fault in one place of a plain name, of any kind and length and in every place. The names without it are known, so that a fault is all that matters. */
+static void faults(void)
+{
+    static const uint8_t wrong[] = {0x80, 0xC3, 0xFF};
+    const sizes s = {13, 8, 200, 6, 20};
+    for (uint64_t kind = 0; kind < 4; kind++) {
+        begin("faults", s, 0);
+        for (size_t len = 1; len < 40; len++) {
+            clear_names();
+            name n = {kind, room(len), kind < NAMEDICT_TAGGED ? len : below(len), 0};
+            n.second_len = len - n.first_len;
+            fill_plain(n.bytes, len);
+            for (int known = 0; known < 2; known++) {
+                for (size_t at = 0; at < len; at++) {
+                    uint8_t byte = n.bytes[at];
+                    n.bytes[at] = ONE_OF(wrong);
+                    find(n);
+                    add(n);
+                    n.bytes[at] = byte;
+                }
+                add(n);
+            }
+        }
+        end_list();
+    }
+}
+
 /* Names of all kinds in turn until nothing more fits, in every order of the kinds; every number read. */
 static void blocks(unsigned times)
 {
@@ -418,5 +445,7 @@ void run_lists(unsigned times)
     empty_after_full();
     tag_lengths(times);
     longest_names();
+    for (unsigned i = 0; i < 20 * times; i++)
+        faults();
     blocks(times);
 }

@@ -52,7 +52,7 @@ static const char *const characters[] = {
     "\xEE\x80\x80", "\xEF\xBF\xBF", "\xF0\x90\x80\x80", "\xF0\x9F\x94\xA7", "\xF4\x8F\xBF\xBF",
 };
 static const char *const marks[] = {"\\", ">", "\\", ">", "a"};
-static const char *const plain[] = {"a", "e", "r", "0", "1", "7", "-"};
+static const char *const plain[] = {"a", "e", "r", "0", "1", "7", "-", "/"};
 
 /* As many characters as fit; 'a' where only a shorter one does. */
 static void fill(uint8_t *to, size_t len, const char *const *from, size_t from_len)
@@ -84,6 +84,11 @@ void fill_text(uint8_t *to, size_t len)
     default:
         FILL(to, len, plain);
     }
+}
+
+void fill_plain(uint8_t *to, size_t len)
+{
+    FILL(to, len, plain);
 }
 
 void break_text(uint8_t *bytes, size_t len)

@@ -24,6 +24,9 @@ name named(uint64_t kind, const char *first, const char *second);
 /* Text of exactly so many bytes: plain, of characters of 1 to 4 bytes, or of marks that are escaped in long tags. */
 void fill_text(uint8_t *to, size_t len);
 
+/* Text of ASCII letters alone, with a '/' here and there. */
+void fill_plain(uint8_t *to, size_t len);
+
 /* Makes text wrong in one place, mostly. */
 void break_text(uint8_t *bytes, size_t len);
 
