@@ -1,4 +1,4 @@
--- A key is stored part after part, each lent the tail of the pages. Assumes nothing.
+-- A key is stored part after part, each lent the tail behind the part before. Assumes nothing.
 use Prim.Native.Nat.{ℕ, _+_, _-_, _≤_}
 use mathlib.Core.Path.{_≡_, refl, sym, ap, _∙_}
 use mathlib.Core.List.{_++_}
@@ -28,11 +28,14 @@ put-part vs l at h =
     let f : length vs ≤ length (take k (drop at l)) = simp (length-take, length-drop) (omega arith) in
     ap (λ (x : Bytes). take at l ++ (x ++ drop k (drop at l))) (sym (sets-front vs (take k (drop at l)) f)) ∙ sets-mid vs l at k (omega arith) (omega arith)
 
--- The front, and the rest behind it.
-pub put-key : (l l₁ l₂ : Bytes) (mode : Mode) (front rest : Bytes) (at b : ℕ)
-    → l₁ ≡ sets l at (bytesOf mode front) → l₂ ≡ sets l₁ b (bytesOf Raw rest) → b ≡ at + length (bytesOf mode front)
-    → l₂ ≡ sets l at (keyOf mode front rest)
-put-key l l₁ l₂ mode front rest at b p q e =
-    let u = sets-append (bytesOf mode front) rest l at in
-    let y : l₂ ≡ sets l₁ b rest = rw raw at q in
-    cc
+-- The front, and the rest behind it, at the start of the tail l.
+pub put-tail : (l l₁ : Bytes) (mode : Mode) (front rest : Bytes) (m : ℕ)
+    → l₁ ≡ bytesOf mode front ++ drop (length (bytesOf mode front)) l → m ≡ length (bytesOf mode front) → length (keyOf mode front rest) ≤ length l
+    → take m l₁ ++ ((rest ++ drop (length rest) (take (length l₁ - m) (drop m l₁))) ++ drop (length l₁ - m) (drop m l₁)) ≡ sets l 0 (keyOf mode front rest)
+put-tail l l₁ mode front rest m p e h =
+    let f = bytesOf mode front in
+    let n = length-key mode front rest in
+    let k : length l₁ ≡ length l = ap length p ∙ length-append f _ ∙ simp length-drop (omega arith) in
+    let q : l₁ ≡ sets l 0 f = p ∙ sym (sets-front f l (omega arith)) in
+    let o : 0 + length f ≡ length f = omega arith in
+    put-part rest l₁ m (omega arith) ∙ rw (q, e) (sym (rw o at (sets-append f rest l 0)))

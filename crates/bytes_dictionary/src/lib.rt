@@ -13,7 +13,6 @@ ghost use Prim.Native.Nat.{_+_, _*_, _≤_, _<_};
 ghost use lib.ListN.{length, take, drop};
 ghost use lib.Seq.{sets};
 ghost use Rattle.words.specs.Words.{wordAt};
-ghost use Rattle.parts.specs.Parts.{bytesOf};
 ghost use Rattle.fnv.specs.Fnv.{fnvOf};
 ghost use Rattle.layout.specs.Sizes.{InRange, dictionaries, pageSize, listBytes};
 ghost use Rattle.layout.specs.Fields.{countAt, entryWord, placeWord};
@@ -42,30 +41,37 @@ pub fn count(lists: &[u8], s: Sizes, d: usize) -> Counted
     Counted::Bad
 }
 
-// Writes a part of a key into the pages from `at` on: their tail is lent to the byte writer.
-fn write_part(pages: &mut [u8], at: usize, mode: Mode, part: &[u8])
-    requires { ⌜ at + length (bytesOf mode (now part)) ≤ length (now pages) ⌝ }
-    ensures { λ _. ⌜ now (pages .exit) ≡ sets (now (pages .entry)) at (bytesOf mode (now (part .entry))) ⌝ }
+// Writes a key at the start of its page's tail: its front, and the rest behind it.
+fn write_tail(tail: &mut [u8], mode: Mode, front: &[u8], rest: &[u8])
+    requires { ⌜ length (keyOf mode (now front) (now rest)) ≤ length (now tail) ⌝ }
+    ensures { λ _. ⌜ now (tail .exit) ≡ sets (now (tail .entry)) 0 (keyOf mode (now (front .entry)) (now (rest .entry))) ⌝ }
 {
-    parts::write(mode, part, &mut pages[at..]);
+    let m = parts::measure(mode, front);
+    parts::write(mode, front, tail);
+    parts::write(Mode::Raw, rest, &mut tail[m..]);
 }
 
-// Writes a key, its front and the rest behind it.
-fn write_key(pages: &mut [u8], at: usize, mode: Mode, front: &[u8], rest: &[u8])
-    requires { ⌜ at + length (keyOf mode (now front) (now rest)) ≤ length (now pages) ⌝ }
+// Writes a key at `at` of the pages. Its page ends at `end`: the tail from the key on is lent to the byte writer, and no byte of another page.
+fn write_key(pages: &mut [u8], at: usize, end: usize, mode: Mode, front: &[u8], rest: &[u8])
+    requires { ⌜ (at + length (keyOf mode (now front) (now rest)) ≤ end) × (end ≤ length (now pages)) ⌝ }
     ensures { λ _. ⌜ now (pages .exit) ≡ sets (now (pages .entry)) at (keyOf mode (now (front .entry)) (now (rest .entry))) ⌝ }
 {
-    let b = at + parts::measure(mode, front);
-    write_part(pages, at, mode, front);
-    write_part(pages, b, Mode::Raw, rest);
+    write_tail(&mut pages[at..end], mode, front, rest);
 }
 
-// Where an entry lies, in one word.
-fn pack(page: usize, offset: usize, len: usize) -> usize
-    requires { ⌜ (page < 1024) × (offset ≤ 1048576) × (len ≤ 1048576) ⌝ }
-    ensures { λ r. ⌜ r ≡ entryWord page offset len ⌝ }
+// Where an entry lies: its page, its offset there, and its length.
+struct Extent {
+    page: usize,
+    offset: usize,
+    len: usize,
+}
+
+// The same in one word.
+fn pack(lies: Extent) -> usize
+    requires { ⌜ (lies .page < 1024) × (lies .offset ≤ 1048576) × (lies .len ≤ 1048576) ⌝ }
+    ensures { λ r. ⌜ r ≡ entryWord (lies .page) (lies .offset) (lies .len) ⌝ }
 {
-    page + PAGE_NUMBERS * offset + LENGTH * len
+    lies.page + PAGE_NUMBERS * lies.offset + LENGTH * lies.len
 }
 
 // What an index place has of entry number n, whose key has the hash h.
@@ -74,31 +80,6 @@ fn place_word(n: usize, h: u32) -> usize
     ensures { λ r. ⌜ r ≡ placeWord n h ⌝ }
 {
     n + 1 + ENTRY_NUMBERS * bytes_index::top_bits(h)
-}
-
-// Writes the words of entry number n, whose key has the hash h: where it lies, its stamp, the place that names it, and the count.
-fn write_entry(
-    lists: &mut [u8],
-    s: Sizes,
-    d: usize,
-    n: usize,
-    page: usize,
-    offset: usize,
-    len: usize,
-    stamp: usize,
-    place: usize,
-    h: u32,
-)
-    requires { ⌜ InRange s × (listBytes s ≤ length (now lists)) × (d < dictionaries) × (n < s .e) × (place < 2 * s .e) ⌝ }
-    requires { ⌜ (page < 1024) × (offset ≤ 1048576) × (len ≤ 1048576) ⌝ }
-    ensures { λ _. ⌜ now (lists .exit) ≡ entryWritten s (now (lists .entry)) d n page offset len stamp place h ⌝ }
-{
-    let e = s.e;
-    let base = layout::dict_at(s, d);
-    words::put_word(lists, base + n, pack(page, offset, len));
-    words::put_word(lists, base + (e + n), stamp);
-    words::put_quad(lists, 2 * (base + 2 * e) + place, place_word(n, h));
-    words::put_word(lists, COUNT + STRIDE * d, n + 1);
 }
 
 // What a fresh entry gets: its dictionary and its number there, the index place that names it, and its stamp; and its key's hash.
@@ -110,29 +91,41 @@ pub struct Fresh {
     pub h: u32,
 }
 
-// Writes an entry at an offset of a page, and gives its length.
+// Writes the words of a fresh entry: where it lies, its stamp, the place that names it, and the count.
+fn write_entry(lists: &mut [u8], s: Sizes, x: Fresh, lies: Extent)
+    requires { ⌜ InRange s × (listBytes s ≤ length (now lists)) × (x .d < dictionaries) × (x .n < s .e) × (x .place < 2 * s .e) ⌝ }
+    requires { ⌜ (lies .page < 1024) × (lies .offset ≤ 1048576) × (lies .len ≤ 1048576) ⌝ }
+    ensures { λ _. ⌜ now (lists .exit) ≡ entryWritten s (now (lists .entry)) (x .d) (x .n) (lies .page) (lies .offset) (lies .len) (x .stamp) (x .place) (x .h) ⌝ }
+{
+    let e = s.e;
+    let n = x.n;
+    let base = layout::dict_at(s, x.d);
+    words::put_word(lists, base + n, pack(lies));
+    words::put_word(lists, base + (e + n), x.stamp);
+    words::put_quad(lists, 2 * (base + 2 * e) + x.place, place_word(n, x.h));
+    words::put_word(lists, COUNT + STRIDE * x.d, n + 1);
+}
+
+// Writes an entry's bytes and its words.
 fn write_at(
     pages: &mut [u8],
     lists: &mut [u8],
     s: Sizes,
     x: Fresh,
-    page: usize,
-    offset: usize,
+    lies: Extent,
     mode: Mode,
     front: &[u8],
     rest: &[u8],
-) -> usize
+)
     requires { ⌜ Fits s (now pages) (now lists) (x .d) × (x .n < s .e) × (x .place < 2 * s .e) ⌝ }
-    requires { ⌜ (page < s .n) × (offset + length (keyOf mode (now front) (now rest)) ≤ pageSize s) ⌝ }
-    ensures length { λ r. ⌜ r ≡ length (keyOf mode (now (front .entry)) (now (rest .entry))) ⌝ }
-    ensures pages { λ _. ⌜ now (pages .exit) ≡ sets (now (pages .entry)) (page * pageSize s + offset) (keyOf mode (now (front .entry)) (now (rest .entry))) ⌝ }
-    ensures lists { λ r. ⌜ now (lists .exit) ≡ entryWritten s (now (lists .entry)) (x .d) (x .n) page offset r (x .stamp) (x .place) (x .h) ⌝ }
+    requires { ⌜ (lies .page < s .n) × (lies .offset + lies .len ≤ pageSize s) × (lies .len ≡ length (keyOf mode (now front) (now rest))) ⌝ }
+    ensures pages { λ _. ⌜ now (pages .exit) ≡ sets (now (pages .entry)) (lies .page * pageSize s + lies .offset) (keyOf mode (now (front .entry)) (now (rest .entry))) ⌝ }
+    ensures lists { λ _. ⌜ now (lists .exit) ≡ entryWritten s (now (lists .entry)) (x .d) (x .n) (lies .page) (lies .offset) (lies .len) (x .stamp) (x .place) (x .h) ⌝ }
 {
-    let len = parts::measure(mode, front) + rest.len();
-    let at = page * layout::page_size(s) + offset;
-    write_key(pages, at, mode, front, rest);
-    write_entry(lists, s, x.d, x.n, page, offset, len, x.stamp, x.place, x.h);
-    len
+    let size = layout::page_size(s);
+    let start = lies.page * size;
+    write_key(pages, start + lies.offset, start + size, mode, front, rest);
+    write_entry(lists, s, x, lies);
 }
 
 // Where an entry's bytes go. Nothing: the spot is none.
@@ -172,7 +165,17 @@ pub fn insert(
     let Room::At { page, offset } = room_at(spot) else {
         return;
     };
-    let len = write_at(pages, lists, s, x, page, offset, mode, front, rest);
+    let len = parts::measure(mode, front) + rest.len();
+    write_at(
+        pages,
+        lists,
+        s,
+        x,
+        Extent { page, offset, len },
+        mode,
+        front,
+        rest,
+    );
     match spot {
         Spot::Current { page: _, offset: _ } => bytes_buffer::extend(lists, page, offset + len),
         Spot::Next(_) => bytes_buffer::take_page(lists, x.d, page, len),

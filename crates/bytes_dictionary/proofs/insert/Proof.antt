@@ -8,19 +8,39 @@ use Rattle.layout.proofs.Ranges.{page-size}
 use Rattle.bytes_index.specs.Search.{keyOf}
 use Rattle.bytes_dictionary.specs.declared.Room.the-variants.{At}
 use Rattle.bytes_dictionary.specs.Written.{entryWritten, roomOf, IsSpot}
+use Rattle.bytes_dictionary.proofs.Keys.{length-key}
 use Rattle.bytes_dictionary.proofs.Written.{room-spot, room-fits, room-current, room-next, after-current, after-next, after-none}
 use borrow.Author.Needs.{needs}
 use Rattle.bytes_dictionary.proofs.insert.Statement.{statement}
 use Rattle.bytes_dictionary.proofs.insert.Tie as tie
 
 -- The spot's page and offset, and that the key has room there.
-found : (c : tie.After-page) → roomOf (c .before .before .before .before .before .before .before .args .spot) ≡ At (c .page .given .0 .0) (c .page .given .0 .1 .0)
+abbrev start : tie.After-page → tie.Start
+start c = c .before .before .before .before .before .before .before
+
+found : (c : tie.After-page) → roomOf (start c .args .spot) ≡ At (c .page .given .0 .0) (c .page .given .0 .1 .0)
 found c = sym (c .before .before .room-at .ensures) ∙ c .page .given .1
 
 fits : (c : tie.After-page) →
-    let a = c .before .before .before .before .before .before .before .args in
+    let a = start c .args in
     (c .page .given .0 .0 < a .s .n) × (c .page .given .0 .1 .0 + length (keyOf (a .mode) (a .front .now) (a .rest .now)) ≤ pageSize (a .s))
-fits c = let z = c .before .before .before .before .before .before .before in room-fits (z .args .s) _ (z .args .spot) _ _ (z .pre .1 .0) (found c)
+fits c = let z = start c in room-fits (z .args .s) _ (z .args .spot) _ _ (z .pre .1 .0) (found c)
+
+-- The key's length is the sum that is computed, and the key ends in its page.
+sized : (c : tie.After-measure) →
+    let p = c .before .before in
+    let a = start p .args in
+    let n = c .measure .result + length (a .rest .now) in
+    (n ≡ length (keyOf (a .mode) (a .front .now) (a .rest .now))) × (p .page .given .0 .1 .0 + n ≤ pageSize (a .s)) × (pageSize (a .s) ≤ 1048576)
+sized c =
+    let p = c .before .before in
+    let a = start p .args in
+    let l = length-key (a .mode) (a .front .now) (a .rest .now) in
+    (omega (arith, l, c .measure .ensures), omega (arith, l, c .measure .ensures, fits p .1), page-size (a .s) (start p .pre .0 .0 .ranged) .1)
+
+-- Where that was computed, before the entry was written.
+abbrev measured : tie.After-write-at → tie.After-measure
+measured c = c .before .before .before
 
 room-at-requires : tie.Need-room-at-requires
 room-at-requires c κs = search needs
@@ -37,22 +57,33 @@ returns c =
     after-none (a .s) (a .pages .now) (a .lists .now) (a .x .d) (a .x .n) (a .x .place) (a .spot) (a .x .stamp) (keyOf (a .mode) (a .front .now) (a .rest .now))
     (sym (c .before .before .room-at .ensures) ∙ c .enum-told .given .1)
 
+measure-requires : tie.Need-measure-requires
+measure-requires c κs =
+    let p = c .before in
+    let a = start p .args in
+    omega (arith, length-key (a .mode) (a .front .now) (a .rest .now), fits p .1, page-size (a .s) (start p .pre .0 .0 .ranged))
+
+add-len : tie.Need-add-len
+add-len c = omega (arith, sized c)
+
 write-at-requires : tie.Need-write-at-requires
-write-at-requires c κs = (c .before .before .before .before .before .before .before .before .before .before .pre .0, fits (c .before .before .before))
+write-at-requires c κs =
+    let m = c .before .before in
+    let p = m .before .before in
+    (start p .pre .0, (fits p .0, sized m .1, sized m .0))
 
 enum-told-2 : tie.Need-enum-told-2
 enum-told-2 c = search needs
 
 add-extend : tie.Need-add-extend
-add-extend c = omega (arith, fits (c .before .before .before .before .before .before .before .before .before .before .before), c .before .before .before .before .before .before .before .write-at .ensures .0, page-size _ (c .before .before .before .before .before .before .before .before .before .before .before .before .before .before .before .before .before .before .pre .0 .0 .ranged))
+add-extend c = omega (arith, sized (measured (c .before .before .before .before .before .before .before)))
 
 extend-requires : tie.Need-extend-requires
 unfolding listBytes
 extend-requires c κs =
-    let p = c .before .before .before .before .before .before .before .before .before .before .before .before .before .before .before .before .before .before .pre in
-    let r = fits (c .before .before .before .before .before .before .before .before .before .before .before) in
-    let l = c .before .before .before .before .before .before .before .write-at .ensures .0 in
-    (omega (arith, r, p .0 .0 .lists-fit), omega (arith, r, l, page-size _ (p .0 .0 .ranged)))
+    let m = measured (c .before .before .before .before .before .before .before) in
+    let p = m .before .before in
+    (omega (arith, fits p .0, start p .pre .0 .0 .lists-fit), omega (arith, sized m))
 
 enum-told-3 : tie.Need-enum-told-3
 enum-told-3 c = search needs
@@ -60,10 +91,10 @@ enum-told-3 c = search needs
 take-page-requires : tie.Need-take-page-requires
 unfolding listBytes
 take-page-requires c κs =
-    let p = c .before .before .before .before .before .before .before .before .before .before .before .before .before .before .before .before .before .before .pre in
-    let r = fits (c .before .before .before .before .before .before .before .before .before .before .before) in
-    let l = c .before .before .before .before .before .before .before .write-at .ensures .0 in
-    (omega (arith, r, p .0 .0 .lists-fit), p .0 .0 .known, omega (arith, r, l, page-size _ (p .0 .0 .ranged)))
+    let m = measured (c .before .before .before .before .before .before .before) in
+    let p = m .before .before in
+    let F = start p .pre .0 .0 in
+    (omega (arith, fits p .0, F .lists-fit), F .known, omega (arith, sized m))
 
 enum-told-4 : tie.Need-enum-told-4
 enum-told-4 c = search needs
@@ -79,13 +110,16 @@ same-length-2 c = search needs
 
 returns-2 : tie.Need-returns-2
 returns-2 c =
-    let g = c .before .before .before .before .before .before .before .before .before .before .before .before .before .before in
-    let a = g .before .before .before .before .before .before .before .args in
-    let w = c .before .before .before .before .before .before .before .before .before .before .write-at in
+    let t = c .before .before .before .before in
+    let w = t .before .before .before .before .before .before in
+    let m = measured w in
+    let g = m .before .before in
+    let z = start g in
+    let a = z .args in
     after-current (a .s) (a .pages .now) (a .lists .now) (a .x .d) (a .x .n) (a .x .place) (a .spot) (a .x .stamp) (keyOf (a .mode) (a .front .now) (a .rest .now))
-    (g .page .given .0 .0) (g .page .given .0 .1 .0) (w .result) (a .x .h) _ _ _
-    (room-current (a .spot) _ _ _ _ (c .before .before .before .before .enum-told2 .given .1) (found g))
-    (w .ensures .0) (g .before .before .before .before .before .before .before .pre .1 .1) (w .ensures .1 .0) (w .ensures .1 .1) (c .before .before .extend .ensures)
+    (g .page .given .0 .0) (g .page .given .0 .1 .0) _ (a .x .h) _ _ _
+    (room-current (a .spot) _ _ _ _ (t .enum-told2 .given .1) (found g))
+    (sized m .0) (z .pre .1 .1) (w .write-at .ensures .0) (w .write-at .ensures .1) (c .before .before .extend .ensures)
 
 same-length-3 : tie.Need-same-length-3
 same-length-3 c = search needs
@@ -95,12 +129,15 @@ same-length-4 c = search needs
 
 returns-3 : tie.Need-returns-3
 returns-3 c =
-    let g = c .before .before .before .before .before .before .before .before .before .before .before .before .before .before in
-    let a = g .before .before .before .before .before .before .before .args in
-    let w = c .before .before .before .before .before .before .before .before .before .before .write-at in
-    let n = room-next (a .spot) _ _ _ (c .before .before .before .before .enum-told3 .given .1) (found g) in
+    let t = c .before .before .before .before in
+    let w = t .before .before .before .before .before .before in
+    let m = measured w in
+    let g = m .before .before in
+    let z = start g in
+    let a = z .args in
+    let n = room-next (a .spot) _ _ _ (t .enum-told3 .given .1) (found g) in
     after-next (a .s) (a .pages .now) (a .lists .now) (a .x .d) (a .x .n) (a .x .place) (a .spot) (a .x .stamp) (keyOf (a .mode) (a .front .now) (a .rest .now))
-    (g .page .given .0 .0) (w .result) (a .x .h) _ _ _ (n .0) (w .ensures .0) (g .before .before .before .before .before .before .before .pre .1 .1) (rw (n .1) at (w .ensures .1 .0)) (rw (n .1) at (w .ensures .1 .1))
+    (g .page .given .0 .0) _ (a .x .h) _ _ _ (n .0) (sized m .0) (z .pre .1 .1) (rw (n .1) at (w .write-at .ensures .0)) (rw (n .1) at (w .write-at .ensures .1))
     (c .before .before .take-page .ensures)
 
 same-length-5 : tie.Need-same-length-5
@@ -112,8 +149,8 @@ same-length-6 c = search needs
 -- Nothing was written before without a spot.
 returns-4 : tie.Need-returns-4
 returns-4 c =
-    let g = c .before .before .before .before .before .before .before .before .before .before in
-    absurd (subst IsSpot (c .enum-told4 .given .1) (room-spot (g .before .before .before .before .before .before .before .args .spot) (g .page .given .0 .0) (g .page .given .0 .1 .0) (found g)))
+    let g = measured (c .before .before .before .before .before .before) .before .before in
+    absurd (subst IsSpot (c .enum-told4 .given .1) (room-spot (start g .args .spot) (g .page .given .0 .0) (g .page .given .0 .1 .0) (found g)))
 
 same-length-7 : tie.Need-same-length-7
 same-length-7 c = search needs
@@ -123,8 +160,8 @@ same-length-8 c = search needs
 
 returns-5 : tie.Need-returns-5
 returns-5 c =
-    let g = c .before .before .before .before .before .before .before .before .before .before in
-    absurd (subst IsSpot (c .enum-told5 .given .1) (room-spot (g .before .before .before .before .before .before .before .args .spot) (g .page .given .0 .0) (g .page .given .0 .1 .0) (found g)))
+    let g = measured (c .before .before .before .before .before .before) .before .before in
+    absurd (subst IsSpot (c .enum-told5 .given .1) (room-spot (start g .args .spot) (g .page .given .0 .0) (g .page .given .0 .1 .0) (found g)))
 
 pub insert-spec : {M : Type 1} → statement M
 insert-spec =
@@ -134,6 +171,8 @@ insert-spec =
     enum-known-page
     enum-told
     returns
+    measure-requires
+    add-len
     write-at-requires
     enum-told-2
     add-extend

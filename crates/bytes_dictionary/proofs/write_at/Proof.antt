@@ -1,59 +1,61 @@
--- The key is written inside its page, and its length is the sum of its parts'. Assumes nothing.
-use Prim.Native.Nat.{_+_, _*_, _≤_}
-use mathlib.Core.Path.{_≡_}
+-- The key is written inside its page. Assumes nothing.
+use Prim.Native.Nat.{ℕ, _+_, _*_, _≤_}
+use mathlib.Core.Path.{sym, subst}
 use native.Mathlib.Omega.{arith}
 use lib.ListN.{length}
 use Rattle.layout.specs.Sizes.{pageBytes}
 use Rattle.layout.proofs.Ranges.{page-size, page-bytes, in-pages}
 use Rattle.bytes_index.specs.Search.{keyOf}
-use Rattle.bytes_dictionary.proofs.Keys.{length-key}
 use borrow.Author.Needs.{needs}
 use Rattle.bytes_dictionary.proofs.write_at.Statement.{statement}
 use Rattle.bytes_dictionary.proofs.write_at.Tie as tie
 
--- The key's length is the sum that is computed, and small.
-sized : (c : tie.After-measure) →
-    let a = c .before .before .before .before .before .args in
-    let n = c .measure .result + length (a .rest .now) in
-    (n ≡ length (keyOf (a .mode) (a .front .now) (a .rest .now))) × (a .offset + n ≤ 1048576)
-sized c =
-    let z = c .before .before .before .before .before in
-    let l = length-key (z .args .mode) (z .args .front .now) (z .args .rest .now) in
-    (omega (arith, l, c .measure .ensures), omega (arith, l, c .measure .ensures, z .pre .1 .1, page-size (z .args .s) (z .pre .0 .0 .ranged)))
+abbrev start : tie.After-page-size → tie.Start
+start c = c .before .before .before .before .before
 
--- The key ends inside the pages.
+-- Its page lies in the pages, and the key ends in its page.
 placed : (c : tie.After-page-size) →
-    let a = c .before .before .before .before .before .before .args in
-    a .page * c .page-size .result + a .offset + length (keyOf (a .mode) (a .front .now) (a .rest .now)) ≤ pageBytes (a .s)
+    let a = start c .args in
+    (a .lies .page * c .page-size .result + c .page-size .result ≤ pageBytes (a .s))
+    × (a .lies .offset + length (keyOf (a .mode) (a .front .now) (a .rest .now)) ≤ c .page-size .result)
 placed c =
-    let z = c .before .before .before .before .before .before in
-    rw (c .page-size .ensures) (omega (arith, in-pages (z .args .s) (z .args .page) _ (z .pre .1 .0) (z .pre .1 .1)))
+    let z = start c in
+    let a = z .args in
+    subst
+    (λ (r : ℕ). (a .lies .page * r + r ≤ pageBytes (a .s)) × (a .lies .offset + length (keyOf (a .mode) (a .front .now) (a .rest .now)) ≤ r))
+    (sym (c .page-size .ensures))
+    (in-pages (a .s) (a .lies .page) _ (z .pre .1 .0) (omega arith), omega (arith, z .pre .1 .1, z .pre .1 .2))
 
-measure-requires : tie.Need-measure-requires
-measure-requires c κs =
-    let z = c .before .before .before .before in
-    omega (arith, length-key (z .args .mode) (z .args .front .now) (z .args .rest .now), z .pre .1 .1, page-size (z .args .s) (z .pre .0 .0 .ranged))
-
-add-len : tie.Need-add-len
-add-len c = omega (arith, sized c)
+-- So nothing overflows.
+small : (c : tie.After-page-size) → start c .args .lies .page * c .page-size .result + c .page-size .result ≤ 1073741824
+small c = let z = start c in omega (arith, placed c .0, page-bytes (z .args .s) (z .pre .0 .0 .ranged))
 
 page-size-requires : tie.Need-page-size-requires
 page-size-requires c κs = search needs
 
-mul-at : tie.Need-mul-at
-mul-at c = omega (arith, placed c, page-bytes _ (c .before .before .before .before .before .before .pre .0 .0 .ranged))
+mul-start : tie.Need-mul-start
+mul-start c = omega (arith, small (c .before))
 
-add-at : tie.Need-add-at
-add-at c = omega (arith, placed c, page-bytes _ (c .before .before .before .before .before .before .pre .0 .0 .ranged))
+add-write-key : tie.Need-add-write-key
+add-write-key c = omega (arith, small (c .before .before .before), placed (c .before .before .before) .1)
+
+add-write-key-2 : tie.Need-add-write-key-2
+add-write-key-2 c = omega (arith, small (c .before .before .before))
 
 write-key-requires : tie.Need-write-key-requires
-write-key-requires c κs = omega (arith, placed (c .before), c .before .before .before .before .before .before .before .pre .0 .0 .pages-fit)
+write-key-requires c κs =
+    let p = c .before .before .before in
+    (omega (arith, placed p), omega (arith, placed p .0, start p .pre .0 .0 .pages-fit))
 
 write-entry-requires : tie.Need-write-entry-requires
 write-entry-requires c κs =
-    let p = c .before .before .before .before .before .before .before .before .before .before .before .pre in
-    let l = sized (c .before .before .before .before .before .before) in
-    ((p .0 .0 .ranged, p .0 .0 .lists-fit, p .0 .0 .known, p .0 .1, p .0 .2), (omega (arith, p .1 .0, p .0 .0 .ranged .n), omega (arith, l), omega (arith, l)))
+    let z = start (c .before .before .before .before .before .before .before) in
+    let F = z .pre .0 .0 in
+    let q = page-size (z .args .s) (F .ranged) in
+    let h = z .pre .1 in (
+      (F .ranged, F .lists-fit, F .known, z .pre .0 .1, z .pre .0 .2),
+      (omega (arith, h .0, F .ranged .n), omega (arith, h .1, q), omega (arith, h .1, q)),
+    )
 
 same-length : tie.Need-same-length
 same-length c = search needs
@@ -62,17 +64,18 @@ same-length-2 : tie.Need-same-length-2
 same-length-2 c = search needs
 
 returns : tie.Need-returns
-returns c = (sized (c .before .before .before .before .before .before .before .before .before) .0, (cc (c .before .before .before .before .before .before .write-key .ensures, c .before .before .before .before .before .before .before .before .page-size .ensures), c .before .before .write-entry .ensures))
+returns c =
+    let k = c .before .before .before .before .before .before in
+    (cc (k .write-key .ensures, k .before .before .before .before .page-size .ensures), c .before .before .write-entry .ensures)
 
 pub write-at-spec : {M : Type 1} → statement M
 write-at-spec =
     tie.close
     (tie.spec
-    measure-requires
-    add-len
     page-size-requires
-    mul-at
-    add-at
+    mul-start
+    add-write-key
+    add-write-key-2
     write-key-requires
     write-entry-requires
     same-length

@@ -15,8 +15,12 @@ base : (c : tie.After-dict-at) →
     (8 * (c .dict-at .result + 3 * a .s .e) ≤ length (a .lists .now)) × (c .dict-at .result + 3 * a .s .e ≤ 20000000)
 base c =
     let z = c .before .before in
-    let w = words-in (z .args .s) (z .args .d) (z .pre .0 .0) (z .pre .0 .2) in
+    let w = words-in (z .args .s) (z .args .x .d) (z .pre .0 .0) (z .pre .0 .2) in
     (omega (arith, w .0, c .dict-at .ensures, z .pre .0 .1), omega (arith, w .1, c .dict-at .ensures))
+
+-- Where their start was computed, two stores before.
+abbrev based : tie.After-put-word2 → tie.After-dict-at
+based c = c .before .before .before .before .before .before .before
 
 dict-at-requires : tie.Need-dict-at-requires
 dict-at-requires c κs = search needs
@@ -43,19 +47,19 @@ mul-put-quad : tie.Need-mul-put-quad
 mul-put-quad c = search needs
 
 add-put-quad : tie.Need-add-put-quad
-add-put-quad c = omega (arith, base (c .before .before .before .before .before .before .before .before .before .before))
+add-put-quad c = omega (arith, base (based (c .before .before .before)))
 
 mul-put-quad-2 : tie.Need-mul-put-quad-2
-mul-put-quad-2 c = omega (arith, base (c .before .before .before .before .before .before .before .before .before .before))
+mul-put-quad-2 c = omega (arith, base (based (c .before .before .before)))
 
 add-put-quad-2 : tie.Need-add-put-quad-2
-add-put-quad-2 c = omega (arith, base (c .before .before .before .before .before .before .before .before .before .before))
+add-put-quad-2 c = omega (arith, base (based (c .before .before .before .before)))
 
 place-word-requires : tie.Need-place-word-requires
-place-word-requires c κs = omega (arith, c .before .before .before .before .before .before .before .before .before .before .before .before .pre .0)
+place-word-requires c κs = omega (arith, based (c .before .before .before .before) .before .before .pre .0)
 
 put-quad-requires : tie.Need-put-quad-requires
-put-quad-requires c κs = omega (arith, base (c .before .before .before .before .before .before .before .before .before .before .before))
+put-quad-requires c κs = omega (arith, base (based (c .before .before .before .before .before)))
 
 mul-put-word : tie.Need-mul-put-word
 mul-put-word c = search needs
