@@ -66,7 +66,7 @@ pub page-size : (s : Sizes) → InRange s → (8192 ≤ pageSize s) × (pageSize
 unfolding pageSize
 page-size s h = (pow-mono (h .p .0), pow-mono (h .p .1))
 
--- How long a name may be, of whatever sizes. It fits a page as it is stored: packed, or behind four bytes at the most.
+-- What the layers above know of a dictionary's limit: it is not above the longest name's, and what a name stores fits a page, packed or behind a head's number.
 pub limit-within : (s : Sizes) → limit s ≤ nameLimit
 unfolding limit
 limit-within s = omega arith

@@ -1,5 +1,5 @@
 -- The stores of the entry, then those of its page by the spot. Assumes nothing.
-use Prim.Native.Nat.{ℕ, _+_, _≤_, _<_}
+use Prim.Native.Nat.{_+_, _≤_, _<_}
 use mathlib.Core.Path.{_≡_, sym, subst, _∙_}
 use native.Mathlib.Omega.{arith}
 use lib.ListN.{length}
@@ -7,7 +7,7 @@ use Rattle.layout.specs.Sizes.{pageSize, listBytes}
 use Rattle.layout.proofs.Ranges.{page-size}
 use Rattle.bytes_index.specs.Search.{keyOf}
 use Rattle.bytes_dictionary.specs.declared.Room.the-variants.{At}
-use Rattle.bytes_dictionary.specs.Written.{entryWritten, roomOf, IsSpot}
+use Rattle.bytes_dictionary.specs.Written.{roomOf, IsSpot}
 use Rattle.bytes_dictionary.proofs.Keys.{length-key}
 use Rattle.bytes_dictionary.proofs.Written.{room-spot, room-fits, room-current, room-next, after-current, after-next, after-none}
 use borrow.Author.Needs.{needs}
