@@ -11,7 +11,7 @@ rules, as tools/rules.py has them.
 import itertools
 import sys
 
-from rules import RANGES, Book, Refused, check_name, refuse_if
+from rules import RANGES, Dictionary, Refused, check_name, refuse_if
 
 
 # ---- printing
@@ -71,10 +71,10 @@ def line_end():
 # ---- the calls
 
 class Memory:
-    """Two slices, by their lengths, and the book in them. Each call may be given the first bytes alone."""
+    """Two slices, by their lengths, and the dictionary in them. Each call may be given the first bytes alone."""
 
     def __init__(self, pages=49156, lists=11088, byte=0xAA):
-        self.pages, self.lists, self.book = pages, lists, None
+        self.pages, self.lists, self.dictionary = pages, lists, None
         self.fill(byte)
 
     def fill(self, byte):
@@ -88,18 +88,18 @@ class Memory:
 
     def opened(self, lengths):
         pages, lists = lengths
-        book = self.book
-        refuse_if(lists < 512 or book is None or pages < book.pages_needed or lists < book.lists_needed, 3)
-        return book
+        dictionary = self.dictionary
+        refuse_if(lists < 512 or dictionary is None or pages < dictionary.pages_needed or lists < dictionary.lists_needed, 3)
+        return dictionary
 
     def open(self, *sizes, pages=None, lists=None):
         pages, lists = self.lengths(pages, lists)
         answer = " done"
         try:
             refuse_if(any(not low <= x <= high for x, (low, high) in zip(sizes, RANGES)), 1)
-            book = Book(*sizes)
-            refuse_if(pages < book.pages_needed or lists < book.lists_needed, 2)
-            self.book = book
+            dictionary = Dictionary(*sizes)
+            refuse_if(pages < dictionary.pages_needed or lists < dictionary.lists_needed, 2)
+            self.dictionary = dictionary
         except Refused as why:
             answer = " refused %s, memory as found" % why
         self.call("o", (pages, lists), " ".join("%x" % x for x in sizes),
@@ -107,9 +107,9 @@ class Memory:
 
     def added(self, kind, first, second, lengths):
         try:
-            book = self.opened(lengths)
+            dictionary = self.opened(lengths)
             check_name(kind, first, second)
-            return " " + book.add(kind, first, second)
+            return " " + dictionary.add(kind, first, second)
         except Refused as why:
             return " refused %s" % why
 
@@ -134,9 +134,9 @@ class Memory:
     def find(self, kind, first, second=b"", pages=None, lists=None):
         lengths = self.lengths(pages, lists)
         try:
-            book = self.opened(lengths)
+            dictionary = self.opened(lengths)
             check_name(kind, first, second)
-            number = book.numbers.get((kind, first, second))
+            number = dictionary.numbers.get((kind, first, second))
             answer = " none" if number is None else " known %d" % number
         except Refused as why:
             answer = " refused %s" % why
@@ -148,9 +148,9 @@ class Memory:
         buffer = b"\xAA" * length
         answer = " none"
         try:
-            book = self.opened(lengths)
-            if number in book.names:
-                kind, first, second = book.names[number]
+            dictionary = self.opened(lengths)
+            if number in dictionary.names:
+                kind, first, second = dictionary.names[number]
                 both = first + second
                 refuse_if(length < len(both), 11)
                 buffer = both + buffer[len(both):]
@@ -163,13 +163,13 @@ class Memory:
     def reads_back(self, number, kind, first):
         """Whether the number has that name; the program counts it."""
         self.call("=", (self.pages, self.lists), "%s %x" % (name_of(kind, first, b""), number), "")
-        return self.book.names.get(number) == (kind, first, b"")
+        return self.dictionary.names.get(number) == (kind, first, b"")
 
     def counted(self, kind, lengths):
         try:
-            book = self.opened(lengths)
+            dictionary = self.opened(lengths)
             refuse_if(kind > 3, 4)
-            return " %d" % book.fresh[kind]
+            return " %d" % dictionary.fresh[kind]
         except Refused as why:
             return " refused %s" % why
 
@@ -186,7 +186,7 @@ class Memory:
 
     def beyond(self):
         """The bytes past what the sizes need, which were AA."""
-        needed = (self.book.pages_needed, self.book.lists_needed)
+        needed = (self.dictionary.pages_needed, self.dictionary.lists_needed)
         pages = b"\xAA" * (self.pages - needed[0])
         lists = b"\xAA" * (self.lists - needed[1])
         self.call("b", (self.pages, self.lists), "%x %x" % needed, "beyond:%s and%s\n" % (shown(pages), shown(lists)))

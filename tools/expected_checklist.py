@@ -9,7 +9,7 @@ import os
 import re
 import sys
 
-from rules import Book, Refused, check_name
+from rules import Dictionary, Refused, check_name
 
 CRATE = os.path.join(os.path.dirname(os.path.abspath(__file__)), "..", "crates", "checklist")
 WORDS = ["", "bad size", "short memory", "unopened", "bad kind", "too long", "not text", "no tag", "list full", "no page", "no block"]
@@ -40,7 +40,7 @@ def named(match):
     return int(kind), first, second or b""
 
 
-def number(book, name):
+def number(dictionary, name):
     fresh = known = refused = 0
     for at, line in lines(name):
         match = re.fullmatch(NAME, line, re.S)
@@ -50,7 +50,7 @@ def number(book, name):
             continue
         try:
             check_name(*named(match.groups()))
-            answer = book.add(*named(match.groups()))
+            answer = dictionary.add(*named(match.groups()))
         except Refused as why:
             out("# line ", at, ": refused, ", WORDS[why.args[0]])
             refused += 1
@@ -66,10 +66,10 @@ def as_line(name):
     return b"%d %s%s" % (kind, first, b"\t" + second if second else b"")
 
 
-def read(book, name):
+def read(dictionary, name):
     for at, line in lines(name):
         if re.fullmatch(NUMBER, line):
-            found = book.names.get(int(line))
+            found = dictionary.names.get(int(line))
             out(int(line), " ", as_line(found) if found else "none")
         else:
             out("# line ", at, ": not a number of 19 digits at the most")
@@ -142,20 +142,20 @@ def main():
     with open(os.path.join(CRATE, "args")) as file:
         words = file.read().split("\n")[:-1]
     sizes = (24, 4096)
-    book = Book(16, 32, 16384, *sizes)
+    dictionary = Dictionary(16, 32, 16384, *sizes)
     while words:
         word = words.pop(0)
         try:
             if word == "number":
-                number(book, words.pop(0))
+                number(dictionary, words.pop(0))
             elif word == "read":
-                read(book, words.pop(0))
+                read(dictionary, words.pop(0))
             elif word == "compare":
                 compare(words.pop(0), words.pop(0))
-                book = Book(16, 32, 16384, *sizes)
+                dictionary = Dictionary(16, 32, 16384, *sizes)
             elif word == "blocks":
                 sizes = int(words.pop(0)), int(words.pop(0))
-                book = Book(16, 32, 16384, *sizes)
+                dictionary = Dictionary(16, 32, 16384, *sizes)
         except FileNotFoundError as missing:
             out("# cannot be opened: ", os.path.basename(missing.filename))
             return

@@ -49,7 +49,7 @@ def is_text(s):
     return UTF8.fullmatch(s) is not None
 
 
-class Dictionary:
+class Entries:
     """One of the six: its entries, and how much of its page is used (None: it has no page)."""
 
     def __init__(self):
@@ -60,13 +60,13 @@ class Dictionary:
         return self.used is None or self.used + len(entry) > size
 
 
-class Book:
+class Dictionary:
     def __init__(self, p, n, e, w, b):
         self.page_size, self.pages_left, self.most, self.width, self.blocks = 1 << p, n, e, w, b
         self.pages_needed = n << p
         self.lists_needed = 8 * (64 + n + 18 * e + 5 * b)
-        self.heads = {0: Dictionary(), 3: Dictionary()}
-        self.whole = {k: Dictionary() for k in range(4)}  # IRI pairs, strings, tagged, typed pairs
+        self.heads = {0: Entries(), 3: Entries()}
+        self.whole = {k: Entries() for k in range(4)}  # IRI pairs, strings, tagged, typed pairs
         self.held = {k: [] for k in range(4)}  # the global blocks of each kind, in the order of its local blocks
         self.fresh = {k: 0 for k in range(4)}
         self.numbers = {}

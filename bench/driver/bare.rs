@@ -1,6 +1,6 @@
-//! Document 01's search and nothing else: what no book can do without. It has no check of its memory, of its sizes or of its arguments,
+//! Document 01's search and nothing else: what no dictionary can do without. It has no check of its memory, of its sizes or of its arguments,
 //! and none of the text. Heads have numbers below 2^14, tags fewer than 128 bytes.
-use crate::books::{Book, SIZES};
+use crate::dictionaries::{Dictionary, SIZES};
 use crate::names::Name;
 use crate::seats::{fnv_from, FNV_START};
 use std::hint::black_box;
@@ -120,7 +120,7 @@ impl Bare {
     }
 }
 
-impl Book for Bare {
+impl Dictionary for Bare {
     fn clear(&mut self) {
         *self = Bare::new();
     }

@@ -2,7 +2,7 @@
 //! Commands: time ROUNDS; alone ROUNDS, the library without the others between; count, under callgrind; counts, which prints the counts given
 //! as lines "contender operation kind count".
 mod bare;
-mod books;
+mod dictionaries;
 mod counts;
 mod names;
 #[allow(dead_code)]
@@ -15,7 +15,7 @@ mod seats;
 mod table;
 
 use bare::Bare;
-use books::{Library, MapAndVec, Original, OriginalFold};
+use dictionaries::{Library, MapAndVec, Original, OriginalFold};
 use names::{Input, KINDS};
 use seats::{Contender, HashAlone, HashInTurn, Seat, OPERATIONS};
 use std::time::Instant;

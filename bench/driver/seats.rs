@@ -1,5 +1,5 @@
 //! What is done with each dictionary, and the hash alone: of names one beside the other, and of names in turn.
-use crate::books::Book;
+use crate::dictionaries::Dictionary;
 use crate::names::{Input, Name, COUNTS};
 use std::hint::black_box;
 
@@ -29,48 +29,48 @@ pub trait Contender {
 }
 
 pub struct Seat<B> {
-    book: B,
+    dictionary: B,
     numbers: [Vec<u64>; 4],
     buffer: Vec<u8>,
 }
 
-impl<B: Book> Seat<B> {
-    pub fn new(book: B) -> Self {
-        Seat { book, numbers: COUNTS.map(|count| vec![0; count]), buffer: vec![0; 4000] }
+impl<B: Dictionary> Seat<B> {
+    pub fn new(dictionary: B) -> Self {
+        Seat { dictionary, numbers: COUNTS.map(|count| vec![0; count]), buffer: vec![0; 4000] }
     }
 }
 
-impl<B: Book> Contender for Seat<B> {
+impl<B: Dictionary> Contender for Seat<B> {
     fn clear(&mut self) {
-        self.book.clear();
+        self.dictionary.clear();
     }
 
     fn run(&mut self, operation: Operation, kind: usize, input: &Input) {
-        let (book, numbers) = (&mut self.book, &mut self.numbers[kind]);
+        let (dictionary, numbers) = (&mut self.dictionary, &mut self.numbers[kind]);
         match operation {
             Operation::Fresh => {
                 for (name, number) in input.known[kind].iter().zip(numbers) {
-                    *number = book.add(name);
+                    *number = dictionary.add(name);
                 }
             }
             Operation::Known => {
                 for name in &input.asked[kind] {
-                    black_box(book.add(name));
+                    black_box(dictionary.add(name));
                 }
             }
             Operation::Hit => {
                 for name in &input.asked[kind] {
-                    black_box(book.find(name));
+                    black_box(dictionary.find(name));
                 }
             }
             Operation::Miss => {
                 for name in &input.missing[kind] {
-                    black_box(book.find(name));
+                    black_box(dictionary.find(name));
                 }
             }
             Operation::Read => {
                 for i in &input.order[kind] {
-                    book.read(numbers[*i], &mut self.buffer);
+                    dictionary.read(numbers[*i], &mut self.buffer);
                 }
             }
         }
@@ -78,10 +78,10 @@ impl<B: Book> Contender for Seat<B> {
 
     fn check(&self, input: &Input) -> Option<&[Vec<u64>; 4]> {
         for (name, number) in input.known.iter().flatten().zip(self.numbers.iter().flatten()) {
-            assert_eq!(self.book.find(name), Some(*number));
-            assert_eq!(self.book.bytes(*number), [name.first.as_bytes(), name.second.as_bytes()].concat());
+            assert_eq!(self.dictionary.find(name), Some(*number));
+            assert_eq!(self.dictionary.bytes(*number), [name.first.as_bytes(), name.second.as_bytes()].concat());
         }
-        assert!(input.missing.iter().flatten().all(|name| self.book.find(name).is_none()));
+        assert!(input.missing.iter().flatten().all(|name| self.dictionary.find(name).is_none()));
         Some(&self.numbers)
     }
 }

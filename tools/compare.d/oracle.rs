@@ -8,7 +8,7 @@ use crate::dictionary::string_dv_dict;
 
 pub use pairs::LeadReader;
 
-pub struct Book {
+pub struct Dictionary {
     iris: StringPairDictionary,
     plain: StringDictionary,
     tagged: StringDictionary,
@@ -17,11 +17,11 @@ pub struct Book {
     dicts: [usize; 4],
 }
 
-impl Book {
+impl Dictionary {
     pub fn new() -> Self {
         let meta = MetaDvDictionary::new();
         let dicts = meta::dicts(&meta);
-        Book {
+        Dictionary {
             iris: StringPairDictionary::default(),
             plain: StringDictionary::default(),
             tagged: StringDictionary::default(),

@@ -11,7 +11,7 @@ use Rattle.layout.specs.Sizes.{InRange, dictionaries, pageSize, listBytes}
 use Rattle.layout.specs.Fields.{untakenAt, currentAt, takenAt, pageAt, pageWord}
 use Rattle.layout.proofs.Ranges.{page-size}
 use Rattle.bytes_buffer.specs.Pages.{Space, fits, grownAt, allPages}
-use Rattle.bytes_buffer.specs.Spots.{currentOf, withUsed, extended, pagesOf, tookPage}
+use Rattle.bytes_buffer.specs.Spots.{currentOf, withUsed, extendedPage, pagesOf, tookPage}
 use Rattle.bytes_buffer.specs.Tables.{PagesAt}
 use Rattle.bytes_buffer.proofs.Pages.{size-is, fits-facts, taken-most}
 use Rattle.bytes_buffer.proofs.Tables.{current-below}
@@ -37,19 +37,19 @@ module _ (s : Sizes) (sp : ℕ → Space) (lists : Bytes) (d n : ℕ) (r : InRan
     word-small : wordAt lists (pageAt (currentOf (wordAt lists) d)) < 2 ^ 64
     word-small =
         let t : 0 < sp d .taken = fits-facts (s .p) (sp d) n e .0 in
-        omega (arith, H .current d l t .place, taken-most sp d l, H .room, r .n .1)
+        omega (arith, H .current d l t .position, taken-most sp d l, H .room, r .n .1)
 
     -- `extend`'s requirement.
     pub extend-may : (8 * pageAt (currentOf (wordAt lists) d) + 8 ≤ length lists) × (sp d .used + n < 2097152)
     extend-may = (page-in s lists (currentOf (wordAt lists) d) f current-in, used-small)
 
-    extend-at : wordAt (extended lists (currentOf (wordAt lists) d) (sp d .used + n)) (pageAt (currentOf (wordAt lists) d)) ≡ withUsed (wordAt lists (pageAt (currentOf (wordAt lists) d))) (sp d .used + n)
+    extend-at : wordAt (extendedPage lists (currentOf (wordAt lists) d) (sp d .used + n)) (pageAt (currentOf (wordAt lists) d)) ≡ withUsed (wordAt lists (pageAt (currentOf (wordAt lists) d))) (sp d .used + n)
     extend-at = extended-same lists (currentOf (wordAt lists) d) (sp d .used + n) (extend-may .0) used-small word-small
 
-    pub extended-holds : PagesAt s (grownAt s sp d n) (wordAt (extended lists (currentOf (wordAt lists) d) (sp d .used + n)))
+    pub extended-holds : PagesAt s (grownAt s sp d n) (wordAt (extendedPage lists (currentOf (wordAt lists) d) (sp d .used + n)))
     extended-holds = extend-keeps s sp (wordAt lists) _ d n r H l e extend-at (extended-other lists (currentOf (wordAt lists) d) (sp d .used + n))
 
-    pub extended-kept : (i : ℕ) → Kept (wordAt lists) (wordAt (extended lists (currentOf (wordAt lists) d) (sp d .used + n))) i
+    pub extended-kept : (i : ℕ) → Kept (wordAt lists) (wordAt (extendedPage lists (currentOf (wordAt lists) d) (sp d .used + n))) i
     extended-kept = extend-kept s sp (wordAt lists) _ d n r H l e extend-at (extended-other lists (currentOf (wordAt lists) d) (sp d .used + n))
 
   -- ---- it does not, and a page is left

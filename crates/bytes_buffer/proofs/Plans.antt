@@ -26,11 +26,11 @@ pub untaken-known : (s : Sizes) (sp : ℕ → Space) (W : ℕ → ℕ) → Pages
 untaken-known s sp W H = ap (lowestOf s) (H .lowest) ∙ lowest-is s (allPages sp) (H .room)
 
 -- What each of the plan's answers says of the spaces.
-abbrev pub PlanSays : Sizes → (ℕ → Space) → (ℕ → ℕ) → ℕ → ℕ → ℕ → Spot → Type 0
-PlanSays s sp W d u n (Current g o) = (fits (s .p) (sp d) n ≡ true) × (g ≡ currentOf W d) × (o ≡ sp d .used)
-PlanSays s sp W d u n (Next g) = (fits (s .p) (sp d) n ≡ false) × (g ≡ u) × (u < s .n)
-PlanSays s sp W d u n NoPage = (fits (s .p) (sp d) n ≡ false) × (s .n ≤ u)
-PlanSays s sp W d u n Bad = ⊥
+abbrev pub SpotSays : Sizes → (ℕ → Space) → (ℕ → ℕ) → ℕ → ℕ → ℕ → Spot → Type 0
+SpotSays s sp W d u n (Current g o) = (fits (s .p) (sp d) n ≡ true) × (g ≡ currentOf W d) × (o ≡ sp d .used)
+SpotSays s sp W d u n (Next g) = (fits (s .p) (sp d) n ≡ false) × (g ≡ u) × (u < s .n)
+SpotSays s sp W d u n NoPage = (fits (s .p) (sp d) n ≡ false) × (s .n ≤ u)
+SpotSays s sp W d u n Bad = ⊥
 
 module _ (s : Sizes) (sp : ℕ → Space) (W : ℕ → ℕ) (d u n : ℕ) (H : PagesAt s sp W) (l : d < dictionaries) where
   -- It fits: behind what the current page has.
@@ -63,17 +63,17 @@ module _ (s : Sizes) (sp : ℕ → Space) (W : ℕ → ℕ) (d u n : ℕ) (H : P
       go (inl e) = rw e (plan-fit e)
       go (inr e) = rw e (plan-unfit e)
 
-  pub plan-says : (r : Spot) → spotIn s W d u n ≡ r → PlanSays s sp W d u n r
-  plan-says r q = subst (PlanSays s sp W d u n) q (go (split (fits (s .p) (sp d) n)) (split (ltb u (s .n))))
+  pub plan-says : (r : Spot) → spotIn s W d u n ≡ r → SpotSays s sp W d u n r
+  plan-says r q = subst (SpotSays s sp W d u n) q (go (split (fits (s .p) (sp d) n)) (split (ltb u (s .n))))
     where
-      go : Split (fits (s .p) (sp d) n) → Split (ltb u (s .n)) → PlanSays s sp W d u n (spotIn s W d u n)
-      go (inl e) b = subst (PlanSays s sp W d u n) (sym (plan-fit e)) (e, refl, refl)
+      go : Split (fits (s .p) (sp d) n) → Split (ltb u (s .n)) → SpotSays s sp W d u n (spotIn s W d u n)
+      go (inl e) b = subst (SpotSays s sp W d u n) (sym (plan-fit e)) (e, refl, refl)
       go (inr e) (inl b) =
           let h : u < s .n = ltb-true u (s .n) b in
-          subst (PlanSays s sp W d u n) (sym (plan-unfit e ∙ next-is s u h)) (e, refl, h)
+          subst (SpotSays s sp W d u n) (sym (plan-unfit e ∙ next-is s u h)) (e, refl, h)
       go (inr e) (inr b) =
           let h : s .n ≤ u = ltb-false u (s .n) b in
-          subst (PlanSays s sp W d u n) (sym (plan-unfit e ∙ next-none s u h)) (e, h)
+          subst (SpotSays s sp W d u n) (sym (plan-unfit e ∙ next-none s u h)) (e, h)
 
   -- An empty entry after an exactly full page stays in that page, at its end.
   pub empty-at-end : n ≡ 0 → 0 < sp d .taken → sp d .used ≡ pageSize s → spotIn s W d u n ≡ Current (currentOf W d) (pageSize s)

@@ -46,7 +46,7 @@ stays sp sp′ W W′ e P a t u c w =
       below = omega (arith, P .below);
       owner = ap ownerOf f ∙ P .owner;
       used = ap usedOf f ∙ P .used ∙ sym u;
-      place = ap (λ (x : ℕ). suc (positionOf x)) f ∙ P .place ∙ sym t;
+      position = ap (λ (x : ℕ). suc (positionOf x)) f ∙ P .position ∙ sym t;
     }
 
 module _ (s : Sizes) (sp : ℕ → Space) (W W′ : ℕ → ℕ) (d n : ℕ) (r : InRange s) (H : PagesAt s sp W) (l : d < dictionaries) where
@@ -103,7 +103,7 @@ module _ (s : Sizes) (sp : ℕ → Space) (W W′ : ℕ → ℕ) (d n : ℕ) (r 
               below = omega (arith, P .below, pages-fit s sp d n l e);
               owner = ap ownerOf f ∙ parts .0 ∙ P .owner;
               used = ap usedOf f ∙ parts .1 ∙ sym (space-same s sp d n .1 ∙ grown-fit (s .p) (sp d) n e .1);
-              place = ap (λ (x : ℕ). suc (positionOf x)) f ∙ ap suc (parts .2) ∙ P .place ∙ sym (taken-kept d);
+              position = ap (λ (x : ℕ). suc (positionOf x)) f ∙ ap suc (parts .2) ∙ P .position ∙ sym (taken-kept d);
             }
         go (no q) =
             let P = H .current k h t in
@@ -186,7 +186,7 @@ module _ (s : Sizes) (sp : ℕ → Space) (W W′ : ℕ → ℕ) (d n : ℕ) (r 
               below = omega (arith, pages-unfit s sp d n l e);
               owner = ap ownerOf f ∙ new-parts .0;
               used = ap usedOf f ∙ new-parts .1 ∙ sym (space-same s sp d n .1 ∙ grown-unfit (s .p) (sp d) n e .1);
-              place = ap (λ (x : ℕ). suc (positionOf x)) f ∙ ap suc (new-parts .2) ∙ sym one-more;
+              position = ap (λ (x : ℕ). suc (positionOf x)) f ∙ ap suc (new-parts .2) ∙ sym one-more;
             }
         go (no q) =
             let o = space-other s sp d n k q in

@@ -13,8 +13,8 @@ use Rattle.bytes_buffer.specs.Tables.{Owned, CurrentPage, PagesAt}
 use Rattle.bytes_buffer.proofs.Pages.{none-taken}
 
 -- Where the words up to the last page's are 0 no dictionary has a page.
-pub opened : (s : Sizes) (W : ℕ → ℕ) → ((j : ℕ) → untakenAt ≤ j → j < 64 + s .n → W j ≡ zero) → PagesAt s noSpace W
-opened s W z = record {
+pub opened-pages : (s : Sizes) (W : ℕ → ℕ) → ((j : ℕ) → untakenAt ≤ j → j < 64 + s .n → W j ≡ zero) → PagesAt s noSpace W
+opened-pages s W z = record {
   lowest = z untakenAt (omega arith) (omega arith) ∙ sym none-taken;
   room = omega (arith, none-taken);
   owned = λ i l. absurd (omega (arith, none-taken));
@@ -47,7 +47,7 @@ module _ (s : Sizes) (sp : ℕ → Space) (W W′ : ℕ → ℕ) (H : PagesAt s 
         below = omega (arith, P .below);
         owner = ap ownerOf f ∙ P .owner;
         used = ap usedOf f ∙ P .used;
-        place = ap (λ (x : ℕ). suc (positionOf x)) f ∙ P .place;
+        position = ap (λ (x : ℕ). suc (positionOf x)) f ∙ P .position;
       }
 
   pub framed : PagesAt s sp W′
@@ -88,7 +88,7 @@ pub last : (s : Sizes) (sp : ℕ → Space) (W : ℕ → ℕ) → PagesAt s sp W
 last s sp W H d i l k o q =
     let t : 0 < sp d .taken = omega arith in
     let P = H .current d l t in
-    let e : i ≡ currentOf W d = H .distinct d i (currentOf W d) l k (current-below s sp W d H l t) o (P .owner) (omega (arith, P .place)) in
+    let e : i ≡ currentOf W d = H .distinct d i (currentOf W d) l k (current-below s sp W d H l t) o (P .owner) (omega (arith, P .position)) in
     omega (arith, P .some)
 
 -- A page that is still to be taken is nobody's.

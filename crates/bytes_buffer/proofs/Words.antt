@@ -9,26 +9,26 @@ use Rattle.words.specs.Words.{wordAt}
 use Rattle.words.proofs.Laws.{length-setWord, getD-setWord, word-set-same, word-set-other}
 use Rattle.layout.specs.Sizes.{dictionaries}
 use Rattle.layout.specs.Fields.{untakenAt, currentAt, takenAt, pageAt, pageWord}
-use Rattle.bytes_buffer.specs.Spots.{withUsed, extended, pagesOf, tookPage}
+use Rattle.bytes_buffer.specs.Spots.{withUsed, extendedPage, pagesOf, tookPage}
 
 -- ---- the current page's used part grows
 
 module _ (lists : Bytes) (page used : ℕ) where
-  pub length-extended : length (extended lists page used) ≡ length lists
-  unfolding extended
+  pub length-extended : length (extendedPage lists page used) ≡ length lists
+  unfolding extendedPage
   length-extended = length-setWord lists (pageAt page) _
 
   pub extended-same : 8 * pageAt page + 8 ≤ length lists → used < 2097152 → wordAt lists (pageAt page) < 2 ^ 64
-      → wordAt (extended lists page used) (pageAt page) ≡ withUsed (wordAt lists (pageAt page)) used
-  unfolding extended
+      → wordAt (extendedPage lists page used) (pageAt page) ≡ withUsed (wordAt lists (pageAt page)) used
+  unfolding extendedPage
   extended-same f u b = word-set-same lists (pageAt page) _ f (omega arith)
 
-  pub extended-other : (j : ℕ) → j ≢ pageAt page → wordAt (extended lists page used) j ≡ wordAt lists j
-  unfolding extended
+  pub extended-other : (j : ℕ) → j ≢ pageAt page → wordAt (extendedPage lists page used) j ≡ wordAt lists j
+  unfolding extendedPage
   extended-other j o = word-set-other lists (pageAt page) j _ o
 
-  pub extended-beyond : (k : ℕ) → 8 * pageAt page + 8 ≤ k → getD (extended lists page used) k 0 ≡ getD lists k 0
-  unfolding extended
+  pub extended-beyond : (k : ℕ) → 8 * pageAt page + 8 ≤ k → getD (extendedPage lists page used) k 0 ≡ getD lists k 0
+  unfolding extendedPage
   extended-beyond k h = getD-setWord lists (pageAt page) _ k (λ i g. omega arith)
 
 -- ---- a page is taken

@@ -58,8 +58,8 @@ abbrev pub withUsed : ℕ → ℕ → ℕ
 withUsed w used = pageWord (ownerOf w) used (positionOf w)
 
 -- The page is used up to here.
-unfoldable pub extended : Bytes → ℕ → ℕ → Bytes
-extended lists page used = setWord lists (pageAt page) (withUsed (wordAt lists (pageAt page)) used)
+unfoldable pub extendedPage : Bytes → ℕ → ℕ → Bytes
+extendedPage lists page used = setWord lists (pageAt page) (withUsed (wordAt lists (pageAt page)) used)
 
 -- How many pages dictionary d has. There are 1,024 at the most, and where one is left it has fewer.
 abbrev pub pagesOf : Bytes → ℕ → ℕ

@@ -19,7 +19,7 @@ pub record CurrentPage (sp : ℕ → Space) (W : ℕ → ℕ) (d : ℕ) : Type 0
   pub below : W (currentAt d) ≤ allPages sp
   pub owner : ownerOf (W (pageAt (currentOf W d))) ≡ suc d
   pub used : usedOf (W (pageAt (currentOf W d))) ≡ sp d .used
-  pub place : suc (positionOf (W (pageAt (currentOf W d)))) ≡ sp d .taken
+  pub position : suc (positionOf (W (pageAt (currentOf W d)))) ≡ sp d .taken
 
 pub record PagesAt (s : Sizes) (sp : ℕ → Space) (W : ℕ → ℕ) : Type 0 where
   -- the untaken pages are those from one number up, and their words are 0

@@ -5,7 +5,7 @@ ghost use lib.ListN.{length};
 ghost use Rattle.words.specs.Words.{wordAt};
 ghost use Rattle.layout.specs.Sizes.{InRange, dictionaries, pageSize, listBytes};
 ghost use Rattle.layout.specs.Fields.{untakenAt, pageAt};
-ghost use Rattle.bytes_buffer.specs.Spots.{lowestOf, nextOf, spotIn, InPages, untakenAfter, extended, tookPage};
+ghost use Rattle.bytes_buffer.specs.Spots.{lowestOf, nextOf, spotIn, InPages, untakenAfter, extendedPage, tookPage};
 use layout::CURRENT;
 use layout::OFFSETS;
 use layout::OWNERS;
@@ -97,7 +97,7 @@ pub fn untaken_after(untaken: usize, spot: Spot) -> usize
 // The page is used up to here; its owner and its position stay.
 pub fn extend(lists: &mut [u8], page: usize, used: usize)
     requires { ⌜ (8 * pageAt page + 8 ≤ length (now lists)) × (used < 2097152) ⌝ }
-    ensures { λ _. ⌜ now (lists .exit) ≡ extended (now (lists .entry)) page used ⌝ }
+    ensures { λ _. ⌜ now (lists .exit) ≡ extendedPage (now (lists .entry)) page used ⌝ }
 {
     let w = words::word_at(lists, PAGES + page);
     words::put_word(

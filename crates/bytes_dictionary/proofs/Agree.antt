@@ -13,9 +13,9 @@ use Rattle.layout.specs.Sizes.{dictionaries, pageBytes, listBytes}
 use Rattle.layout.specs.Fields.{untakenAt, currentAt, takenAt, pageAt, countAt, dictAt, entryAt, placeAt, pageOf, offsetOf, sizeOf, ownerOf, usedOf, positionOf}
 use Rattle.layout.proofs.Ranges.{in-pages}
 use Rattle.layout.proofs.Places.{dict-from, dict-below}
-use Rattle.bytes_index.specs.Entries.{Entries, addressOf, Stands}
+use Rattle.bytes_index.specs.Entries.{Entries, addressOf, Addresses}
 use Rattle.bytes_buffer.proofs.Tables.{framed}
-use Rattle.bytes_dictionary.specs.Store.{Store, pageWordOf, Lies, Before, DictAt, StoreAt}
+use Rattle.bytes_dictionary.specs.Store.{Store, pageWordOf, Lies, LiesBefore, DictAt, StoreAt}
 use Rattle.bytes_dictionary.proofs.Frame.{SameBytes, holds-agree}
 use Rattle.bytes_dictionary.proofs.Header.{header-kept}
 
@@ -47,8 +47,8 @@ module _ (s : Sizes) (pages pages′ lists lists′ : Bytes) (same-pages : (i : 
             (record { owner = ap ownerOf (page i l) ∙ L .owner; ends = subst (λ (x : ℕ). offsetOf (word i) + sizeOf (word i) ≤ usedOf x) (sym (page i l)) (L .ends) });
         rises = λ i l.
             let a : i < c = omega arith in
-            subst (λ (x : ℕ). Before (wordAt lists′) x (wordAt lists′ (entryAt s d (i + 1)))) (sym (entry i a))
-            (subst (Before (wordAt lists′) (word i)) (sym (entry (i + 1) l))
+            subst (λ (x : ℕ). LiesBefore (wordAt lists′) x (wordAt lists′ (entryAt s d (i + 1)))) (sym (entry i a))
+            (subst (LiesBefore (wordAt lists′) (word i)) (sym (entry (i + 1) l))
             (⊎-elim (λ h. inl (subst (λ (x : ℕ). x < positionOf (pageWordOf (wordAt lists′) (word (i + 1)))) (sym (ap positionOf (page i a)))
             (subst (λ (x : ℕ). positionOf (pageWordOf (wordAt lists) (word i)) < x) (sym (ap positionOf (page (i + 1) l))) h)))
             (λ h. inr h)
@@ -64,7 +64,7 @@ module _ (s : Sizes) (pages pages′ lists lists′ : Bytes) (same-pages : (i : 
       own : (y : ℕ) → y < 2 * s .e → wordAt lists′ (dictAt s d + y) ≡ wordAt lists (dictAt s d + y)
       own y l = words-same (dictAt s d + y) (omega (arith, b))
 
-      bytes : {w : ℕ} {key : Bytes} → Stands s (λ a. getD pages a 0) w key → SameBytes s (λ a. getD pages a 0) (λ a. getD pages′ a 0) w (length key)
+      bytes : {w : ℕ} {key : Bytes} → Addresses s (λ a. getD pages a 0) w key → SameBytes s (λ a. getD pages a 0) (λ a. getD pages′ a 0) w (length key)
       bytes {w} {key} t k l = same-pages (addressOf s w + k) (omega (arith, t .sized, in-pages s (pageOf w) (offsetOf w + sizeOf w) (t .paged) (t .inside)))
 
       word : ℕ → ℕ

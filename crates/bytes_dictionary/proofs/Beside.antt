@@ -15,7 +15,7 @@ use Rattle.layout.specs.Sizes.{InRange, dictionaries, pageSize, pageBytes, list
 use Rattle.layout.specs.Fields.{currentAt, countAt, entryAt, orderAt, placeAt, dictAt}
 use Rattle.layout.proofs.Ranges.{in-pages}
 use Rattle.layout.proofs.Places.{dict-from, dict-below}
-use Rattle.bytes_index.specs.Place.{place}
+use Rattle.bytes_index.specs.Place.{placeAfter}
 use Rattle.bytes_index.specs.Entries.{Entries, Misses}
 use Rattle.bytes_index.proofs.Place.{place-lt}
 use Rattle.bytes_buffer.specs.declared.Spot.{Spot}
@@ -100,8 +100,8 @@ pages-beside s pages key Bad h i l = refl
 pub misses-kept : (s : Sizes) (Q Q′ : ℕ → ℕ) (es : Entries) (key : Bytes) (j : ℕ) → ((k : ℕ) → k < 2 * s .e → Q′ k ≡ Q k) → Misses s Q es key j → Misses s Q′ es key j
 misses-kept s Q Q′ es key j same M =
     let F = M .free in
-    let at : (k : ℕ) → Q′ (place (2 * s .e) (fnvOf key) k) ≡ Q (place (2 * s .e) (fnvOf key) k) =
-    λ k. same (place (2 * s .e) (fnvOf key) k) (place-lt (2 * s .e) (fnvOf key) k (omega (arith, F .near))) in
+    let at : (k : ℕ) → Q′ (placeAfter (2 * s .e) (fnvOf key) k) ≡ Q (placeAfter (2 * s .e) (fnvOf key) k) =
+    λ k. same (placeAfter (2 * s .e) (fnvOf key) k) (place-lt (2 * s .e) (fnvOf key) k (omega (arith, F .near))) in
     record {
       absent = M .absent;
       free = record {

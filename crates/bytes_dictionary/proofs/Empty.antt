@@ -16,7 +16,7 @@ use Rattle.layout.proofs.Opened.{opened-zero, opened-header}
 use Rattle.layout.proofs.Places.{dict-from, list-bytes}
 use Rattle.bytes_index.specs.Entries.{Holds}
 use Rattle.bytes_index.proofs.Filled.{filled-none}
-use Rattle.bytes_buffer.proofs.Tables.{opened}
+use Rattle.bytes_buffer.proofs.Tables.{opened-pages}
 use Rattle.bytes_dictionary.specs.Store.{emptyStore, StoreAt}
 use Rattle.bytes_dictionary.proofs.Reading.{words-in}
 
@@ -60,7 +60,7 @@ pub store-empty : (s : Sizes) (pages lists : Bytes) → InRange s → HeaderOf s
 store-empty s pages lists r h z =
     record {
       header = h;
-      paged = opened s (wordAt lists) (λ j l h. z j l (omega (arith, list-bytes s)));
+      paged = opened-pages s (wordAt lists) (λ j l h. z j l (omega (arith, list-bytes s)));
       dict = λ d dl.
           let w = words-in s d r dl .0 in
           let b = dict-from s d in

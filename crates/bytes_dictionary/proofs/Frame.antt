@@ -7,8 +7,8 @@ use lib.ListN.{length}
 use Rattle.slices.specs.Bytes.{Bytes}
 use Rattle.fnv.specs.Fnv.{fnvOf}
 use Rattle.layout.specs.declared.Sizes.{Sizes}
-use Rattle.bytes_index.specs.Place.{place}
-use Rattle.bytes_index.specs.Entries.{Entries, addressOf, Stands, Holds}
+use Rattle.bytes_index.specs.Place.{placeAfter}
+use Rattle.bytes_index.specs.Entries.{Entries, addressOf, Addresses, Holds}
 use Rattle.bytes_index.proofs.Place.{place-lt}
 use Rattle.bytes_index.proofs.Filled.{filled-agree}
 
@@ -16,9 +16,9 @@ use Rattle.bytes_index.proofs.Filled.{filled-agree}
 abbrev pub SameBytes : Sizes → (ℕ → ℕ) → (ℕ → ℕ) → ℕ → ℕ → Type 0
 SameBytes s B B′ w n = (k : ℕ) → k < n → B′ (addressOf s w + k) ≡ B (addressOf s w + k)
 
-pub stands-agree : (s : Sizes) (B B′ : ℕ → ℕ) (w w′ : ℕ) (key : Bytes) → w′ ≡ w → SameBytes s B B′ w (length key) → Stands s B w key → Stands s B′ w′ key
+pub stands-agree : (s : Sizes) (B B′ : ℕ → ℕ) (w w′ : ℕ) (key : Bytes) → w′ ≡ w → SameBytes s B B′ w (length key) → Addresses s B w key → Addresses s B′ w′ key
 stands-agree s B B′ w w′ key q a t =
-    subst (λ (x : ℕ). Stands s B′ x key) (sym q)
+    subst (λ (x : ℕ). Addresses s B′ x key) (sym q)
     (record { paged = t .paged; inside = t .inside; sized = t .sized; bytes = λ k l. a k l ∙ t .bytes k l })
 
 pub holds-agree : (s : Sizes) (B W Q B′ W′ Q′ : ℕ → ℕ) (es : Entries)
@@ -32,8 +32,8 @@ holds-agree s B W Q B′ W′ Q′ es we qe be H =
       names = λ j l. rw (qe j l) (H .names j l);
       met = λ i key u.
           let M = H .met i key u in
-          let at : (k : ℕ) → Q′ (place (2 * s .e) (fnvOf key) k) ≡ Q (place (2 * s .e) (fnvOf key) k) =
-          λ k. qe (place (2 * s .e) (fnvOf key) k) (place-lt (2 * s .e) (fnvOf key) k (omega (arith, M .near))) in
+          let at : (k : ℕ) → Q′ (placeAfter (2 * s .e) (fnvOf key) k) ≡ Q (placeAfter (2 * s .e) (fnvOf key) k) =
+          λ k. qe (placeAfter (2 * s .e) (fnvOf key) k) (place-lt (2 * s .e) (fnvOf key) k (omega (arith, M .near))) in
           record { step = M .step; near = M .near; there = at (M .step) ∙ M .there; full = λ k g. rw (at k) (M .full k g) };
       count = filled-agree Q Q′ (2 * s .e) qe ∙ H .count;
       apart = H .apart;

@@ -17,9 +17,9 @@ use Rattle.layout.specs.Sizes.{InRange, dictionaries, pageSize, pageBytes}
 use Rattle.layout.specs.Fields.{entryAt, orderAt, placeAt, pageAt, entryWord, pageOf, offsetOf, sizeOf, ownerOf, usedOf, positionOf}
 use Rattle.layout.proofs.Ranges.{page-size, in-pages}
 use Rattle.layout.proofs.Places.{entry-word}
-use Rattle.bytes_index.specs.Entries.{Entries, addressOf, Stands, Misses}
+use Rattle.bytes_index.specs.Entries.{Entries, addressOf, Addresses, Misses}
 use Rattle.bytes_buffer.specs.Pages.{upd}
-use Rattle.bytes_dictionary.specs.Store.{pageWordOf, Lies, Before, DictAt}
+use Rattle.bytes_dictionary.specs.Store.{pageWordOf, Lies, LiesBefore, DictAt}
 use Rattle.bytes_dictionary.proofs.Updates.{upd-same, upd-other, more-old}
 use Rattle.bytes_dictionary.proofs.Frame.{SameBytes, holds-agree}
 use Rattle.bytes_dictionary.proofs.More.{holds-more}
@@ -61,7 +61,7 @@ module _ (s : Sizes) (r : InRange s) (pages lists lists′ : Bytes) (d n page of
   parts : (pageOf new ≡ page) × (offsetOf new ≡ offset) × (sizeOf new ≡ length key)
   parts = entry-word page offset (length key) (omega (arith, P .paged, r .n)) (omega (arith, P .inside, page-size s r))
 
-  new-stands : Stands s (λ a. getD (sets pages (page * pageSize s + offset) key) a 0) new key
+  new-stands : Addresses s (λ a. getD (sets pages (page * pageSize s + offset) key) a 0) new key
   new-stands =
       let a : addressOf s new ≡ page * pageSize s + offset = λ i. parts .0 i * pageSize s + parts .1 i in
       let b = in-pages s page (offset + length key) (P .paged) (P .inside) in
@@ -98,7 +98,7 @@ module _ (s : Sizes) (r : InRange s) (pages lists lists′ : Bytes) (d n page of
     abbrev word : ℕ → ℕ
     word i = wordAt lists (entryAt s k i)
 
-    stands : (i : ℕ) → i < c → (x : Bytes) × Stands s (λ a. getD pages a 0) (wordAt lists (entryAt s k i)) x
+    stands : (i : ℕ) → i < c → (x : Bytes) × Addresses s (λ a. getD pages a 0) (wordAt lists (entryAt s k i)) x
     stands i l = let u = D .in-use i l in (u .0, D .held .entry i (u .0) (u .1) .1)
 
     -- no byte of it is written
@@ -128,11 +128,11 @@ module _ (s : Sizes) (r : InRange s) (pages lists lists′ : Bytes) (d n page of
       position-same : (i : ℕ) → i < c → positionOf (pageWordOf (wordAt lists′) (wordAt lists (entryAt s k i))) ≡ positionOf (pageWordOf (wordAt lists) (wordAt lists (entryAt s k i)))
       position-same i l = P .kept k (pageOf (word i)) (stands i l .1 .paged) (D .lies i l .owner) .position
 
-      rises-same : (i : ℕ) → i + 1 < c → Before (wordAt lists′) (wordAt lists′ (entryAt s k i)) (wordAt lists′ (entryAt s k (i + 1)))
+      rises-same : (i : ℕ) → i + 1 < c → LiesBefore (wordAt lists′) (wordAt lists′ (entryAt s k i)) (wordAt lists′ (entryAt s k (i + 1)))
       rises-same i l =
           let a : i < c = omega arith in
-          subst (λ (x : ℕ). Before (wordAt lists′) x (wordAt lists′ (entryAt s k (i + 1)))) (sym (word-same i a))
-          (subst (Before (wordAt lists′) (word i)) (sym (word-same (i + 1) l))
+          subst (λ (x : ℕ). LiesBefore (wordAt lists′) x (wordAt lists′ (entryAt s k (i + 1)))) (sym (word-same i a))
+          (subst (LiesBefore (wordAt lists′) (word i)) (sym (word-same (i + 1) l))
           (⊎-elim (λ h. inl (lt-both _ _ _ _ (position-same i a) (position-same (i + 1) l) h)) (λ h. inr h) (D .rises i l)))
 
       stamped-same : (i : ℕ) → i < c → wordAt lists′ (orderAt s k i) ≡ t i
@@ -179,14 +179,14 @@ module _ (s : Sizes) (r : InRange s) (pages lists lists′ : Bytes) (d n page of
         go (no h) = let e : n ≡ i = omega arith in subst Q e one
 
     -- The last old entry lies before the new one.
-    rises-new : (i : ℕ) → i + 1 ≡ n → Before (wordAt lists′) (wordAt lists′ (entryAt s d i)) (wordAt lists′ (entryAt s d n))
+    rises-new : (i : ℕ) → i + 1 ≡ n → LiesBefore (wordAt lists′) (wordAt lists′ (entryAt s d i)) (wordAt lists′ (entryAt s d n))
     rises-new i e =
         let l : i < n = omega arith in
         let w : ℕ = wordAt lists (entryAt s d i) in
         let L = D .lies i l in
         let p : pageOf w < s .n = stands d es n t dl D i l .1 .paged in
-        subst (λ (x : ℕ). Before (wordAt lists′) x (wordAt lists′ (entryAt s d n))) (sym (word-same d es n t dl D own i l))
-        (subst (Before (wordAt lists′) w) (sym (S .entry))
+        subst (λ (x : ℕ). LiesBefore (wordAt lists′) x (wordAt lists′ (entryAt s d n))) (sym (word-same d es n t dl D own i l))
+        (subst (LiesBefore (wordAt lists′) w) (sym (S .entry))
         (⊎-elim (λ h. inl (lt-both _ _ _ _ (position-same d es n t dl D own i l) (ap positionOf new-page) h))
         (λ h.
         inr (
@@ -205,7 +205,7 @@ module _ (s : Sizes) (r : InRange s) (pages lists lists′ : Bytes) (d n page of
               (λ a. getD (sets pages (page * pageSize s + offset) key) a 0) (λ i. wordAt lists′ (entryAt s d i)) (λ j. quadAt lists′ (placeAt s d j)) es n key place
               (D .past n (omega arith))
               nl
-              (subst (λ (x : ℕ). Stands s (λ a. getD (sets pages (page * pageSize s + offset) key) a 0) x key) (sym (S .entry)) new-stands)
+              (subst (λ (x : ℕ). Addresses s (λ a. getD (sets pages (page * pageSize s + offset) key) a 0) x key) (sym (S .entry)) new-stands)
               (S .named)
               (λ i x u. word-same d es n t dl D own i (below d es n t dl D i x u))
               (λ j l q. S .places d j dl l (λ e. q))
@@ -228,11 +228,11 @@ module _ (s : Sizes) (r : InRange s) (pages lists lists′ : Bytes) (d n page of
           unstamped = λ i l. upd-other t n stamp i (omega arith) ∙ D .unstamped i (omega arith);
         }
       where
-        rises-all : (i : ℕ) → i + 1 < n + 1 → Dec (i + 1 < n) → Before (wordAt lists′) (wordAt lists′ (entryAt s d i)) (wordAt lists′ (entryAt s d (i + 1)))
+        rises-all : (i : ℕ) → i + 1 < n + 1 → Dec (i + 1 < n) → LiesBefore (wordAt lists′) (wordAt lists′ (entryAt s d i)) (wordAt lists′ (entryAt s d (i + 1)))
         rises-all i l (yes h) = rises-same d es n t dl D own i h
         rises-all i l (no h) =
             let e : i + 1 ≡ n = omega arith in
-            subst (λ (x : ℕ). Before (wordAt lists′) (wordAt lists′ (entryAt s d i)) (wordAt lists′ (entryAt s d x))) (sym e) (rises-new i e)
+            subst (λ (x : ℕ). LiesBefore (wordAt lists′) (wordAt lists′ (entryAt s d i)) (wordAt lists′ (entryAt s d x))) (sym e) (rises-new i e)
 
         stamps-rise : (i : ℕ) → i + 1 < n + 1 → Dec (i + 1 < n) → upd t n stamp i < upd t n stamp (i + 1)
         stamps-rise i l (yes h) = lt-both _ _ _ _ (upd-other t n stamp i (omega arith)) (upd-other t n stamp (i + 1) (omega arith)) (D .rising i h)

@@ -11,13 +11,13 @@ use Rattle.parts.specs.declared.Mode.{Mode}
 use Rattle.parts.specs.declared.Mode.the-variants.{Raw}
 use Rattle.parts.specs.Parts.{bytesOf}
 use Rattle.parts.proofs.Laws.{sets-append, sets-front}
-use Rattle.bytes_index.specs.Search.{keyOf}
+use Rattle.bytes_index.specs.Search.{keyBytes}
 
 pub raw : (s : Bytes) → bytesOf Raw s ≡ s
 unfolding bytesOf
 raw s = refl
 
-pub length-key : (mode : Mode) (front rest : Bytes) → length (keyOf mode front rest) ≡ length (bytesOf mode front) + length rest
+pub length-key : (mode : Mode) (front rest : Bytes) → length (keyBytes mode front rest) ≡ length (bytesOf mode front) + length rest
 length-key mode front rest = length-append (bytesOf mode front) rest
 
 -- The tail of l comes back with the part at its front.
@@ -30,8 +30,8 @@ put-part vs l at h =
 
 -- The front, and the rest behind it, at the start of the tail l.
 pub put-tail : (l l₁ : Bytes) (mode : Mode) (front rest : Bytes) (m : ℕ)
-    → l₁ ≡ bytesOf mode front ++ drop (length (bytesOf mode front)) l → m ≡ length (bytesOf mode front) → length (keyOf mode front rest) ≤ length l
-    → take m l₁ ++ ((rest ++ drop (length rest) (take (length l₁ - m) (drop m l₁))) ++ drop (length l₁ - m) (drop m l₁)) ≡ sets l 0 (keyOf mode front rest)
+    → l₁ ≡ bytesOf mode front ++ drop (length (bytesOf mode front)) l → m ≡ length (bytesOf mode front) → length (keyBytes mode front rest) ≤ length l
+    → take m l₁ ++ ((rest ++ drop (length rest) (take (length l₁ - m) (drop m l₁))) ++ drop (length l₁ - m) (drop m l₁)) ≡ sets l 0 (keyBytes mode front rest)
 put-tail l l₁ mode front rest m p e h =
     let f = bytesOf mode front in
     let n = length-key mode front rest in

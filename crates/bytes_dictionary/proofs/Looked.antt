@@ -10,8 +10,8 @@ use Rattle.layout.specs.declared.Sizes.{Sizes}
 use Rattle.layout.specs.Sizes.{dictionaries}
 use Rattle.layout.specs.Fields.{countAt, entryAt}
 use Rattle.bytes_index.specs.declared.Span.the-variants as Span
-use Rattle.bytes_index.specs.Entries.{Stands}
-use Rattle.bytes_index.specs.Field.{Located}
+use Rattle.bytes_index.specs.Entries.{Addresses}
+use Rattle.bytes_index.specs.Field.{SpanOf}
 use Rattle.bytes_index.proofs.Stored.{field-in, field-at, stands-part}
 use Rattle.bytes_dictionary.specs.declared.Lookup.the-variants.{At, Nothing, Bad}
 use Rattle.bytes_dictionary.specs.Store.{Store, StoreAt}
@@ -39,7 +39,7 @@ module _ (s : Sizes) (d i : ℕ) (lists : Bytes) (dl : d < dictionaries) where
     pub record Kept (pages : Bytes) (st : Store) : Type 0 where
       pub key : Bytes
       pub in-use : st .entries d i ≡ some key
-      pub stands : Stands s (λ a. getD pages a 0) (wordAt lists (entryAt s d i)) key
+      pub stands : Addresses s (λ a. getD pages a 0) (wordAt lists (entryAt s d i)) key
 
     kept : (pages : Bytes) (st : Store) → StoreAt s st pages lists → Kept pages st
     kept pages st S =
@@ -47,7 +47,7 @@ module _ (s : Sizes) (d i : ℕ) (lists : Bytes) (dl : d < dictionaries) where
         let u = D .in-use i (omega (arith, D .counted)) in
         record { key = u .0; in-use = u .1; stands = D .held .entry i (u .0) (u .1) .1 }
 
-    pub looked-at : (at len : ℕ) → Located s (wordAt lists (entryAt s d i)) (Span.At at len) → Looked s d i lists (At at len)
+    pub looked-at : (at len : ℕ) → SpanOf s (wordAt lists (entryAt s d i)) (Span.At at len) → Looked s d i lists (At at len)
     looked-at at len L =
         record {
           inside = L .inside;
@@ -59,7 +59,7 @@ module _ (s : Sizes) (d i : ℕ) (lists : Bytes) (dl : d < dictionaries) where
               (stands-part s pages (wordAt lists (entryAt s d i)) (K .key) (rw (← F .starts, ← F .sized) (omega (arith, L .inside))) (K .stands)));
         }
 
-    pub looked-foreign : Located s (wordAt lists (entryAt s d i)) Span.Bad → Looked s d i lists Bad
+    pub looked-foreign : SpanOf s (wordAt lists (entryAt s d i)) Span.Bad → Looked s d i lists Bad
     looked-foreign L =
         record {
           inside = tt;

@@ -10,8 +10,8 @@ use Rattle.slices.specs.Bytes.{Bytes}
 use Rattle.fnv.specs.Fnv.{fnvOf}
 use Rattle.layout.specs.declared.Sizes.{Sizes}
 use Rattle.layout.specs.Fields.{placeWord}
-use Rattle.bytes_index.specs.Place.{place}
-use Rattle.bytes_index.specs.Entries.{Entries, used, Stands, Met, Holds, Misses}
+use Rattle.bytes_index.specs.Place.{placeAfter}
+use Rattle.bytes_index.specs.Entries.{Entries, used, Addresses, Met, Holds, Misses}
 use Rattle.bytes_index.proofs.Place.{place-lt}
 use Rattle.bytes_index.proofs.Filled.{filled-put}
 use Rattle.bytes_buffer.specs.Pages.{upd}
@@ -20,7 +20,7 @@ use Rattle.bytes_dictionary.proofs.Frame.{SameBytes, stands-agree}
 
 module _ (s : Sizes) (B W Q B′ W′ Q′ : ℕ → ℕ) (es : Entries) (n : ℕ) (key : Bytes) (j : ℕ) where
   pub holds-more : es n ≡ none → n < s .e
-      → Stands s B′ (W′ n) key
+      → Addresses s B′ (W′ n) key
       → Q′ j ≡ placeWord n (fnvOf key)
       → ((i : ℕ) (k : Bytes) → es i ≡ some k → W′ i ≡ W i)
       → ((k : ℕ) → k < 2 * s .e → k ≢ j → Q′ k ≡ Q k)
@@ -30,7 +30,7 @@ module _ (s : Sizes) (B W Q B′ W′ Q′ : ℕ → ℕ) (es : Entries) (n : �
   holds-more z room new put we qe be M H =
       record {
         entry = λ i k u.
-            ⊎-elim (λ h. subst (λ (x : ℕ). (x < s .e) × Stands s B′ (W′ x) k) (sym (h .0)) (room, subst (Stands s B′ (W′ n)) (h .1) new))
+            ⊎-elim (λ h. subst (λ (x : ℕ). (x < s .e) × Addresses s B′ (W′ x) k) (sym (h .0)) (room, subst (Addresses s B′ (W′ n)) (h .1) new))
             (λ h. let o = H .entry i k (h .1) in (o .0, stands-agree s B B′ (W i) (W′ i) k (we i k (h .1)) (be i k (h .1)) (o .1)))
             (more-cases es n key i k u);
         names = λ k l. named k l (ℕ-discrete k j);
@@ -59,8 +59,8 @@ module _ (s : Sizes) (B W Q B′ W′ Q′ : ℕ → ℕ) (es : Entries) (n : �
       inside = rw (M .free .here) at (place-lt (2 * s .e) (fnvOf key) (M .free .step) (omega arith))
 
       -- what was not empty stays
-      stays : (h k : ℕ) → Q (place (2 * s .e) h k) ≢ 0 → Q′ (place (2 * s .e) h k) ≡ Q (place (2 * s .e) h k)
-      stays h k f = qe (place (2 * s .e) h k) (place-lt (2 * s .e) h k (omega arith)) (λ q. f (ap Q q ∙ free))
+      stays : (h k : ℕ) → Q (placeAfter (2 * s .e) h k) ≢ 0 → Q′ (placeAfter (2 * s .e) h k) ≡ Q (placeAfter (2 * s .e) h k)
+      stays h k f = qe (placeAfter (2 * s .e) h k) (place-lt (2 * s .e) h k (omega arith)) (λ q. f (ap Q q ∙ free))
 
       named : (k : ℕ) → k < 2 * s .e → Dec (k ≡ j) → Q′ k ≢ 0 → (i : ℕ) × (x : Bytes) × (upd es n (some key) i ≡ some x) × (Q′ k ≡ placeWord i (fnvOf x))
       named k l (yes q) = λ f. (n, key, upd-same es n (some key), ap Q′ q ∙ put)

@@ -14,7 +14,7 @@ use Rattle.layout.specs.Sizes.{InRange, dictionaries, pageSize, listBytes}
 use Rattle.layout.specs.Fields.{currentAt, pageAt, countAt, entryAt, orderAt, placeAt, ownerOf, usedOf, positionOf}
 use Rattle.layout.proofs.Places.{dict-from}
 use Rattle.bytes_buffer.specs.Pages.{Space, fits, grownAt, allPages}
-use Rattle.bytes_buffer.specs.Spots.{currentOf, extended, tookPage}
+use Rattle.bytes_buffer.specs.Spots.{currentOf, extendedPage, tookPage}
 use Rattle.bytes_buffer.specs.Tables.{PagesAt}
 use Rattle.bytes_buffer.proofs.Pages.{fits-facts, grown-fit, grown-unfit, grown-taken, grown-same}
 use Rattle.bytes_buffer.proofs.Words.{extended-other, extended-beyond, took-other, took-beyond, took-current}
@@ -58,15 +58,15 @@ module _ (s : Sizes) (sp : ℕ → Space) (W W′ : ℕ → ℕ) (d page offset 
       b : i < allPages (grownAt s sp d n)
       b = owned-below s (grownAt s sp d n) W′ d i H′ h o′
 
-      place : suc (positionOf (W′ (pageAt page))) ≡ grownAt s sp d n d .taken
-      place = subst (λ (x : ℕ). suc (positionOf (W′ (pageAt x))) ≡ grownAt s sp d n d .taken) here (H′ .current d l some .place)
+      position : suc (positionOf (W′ (pageAt page))) ≡ grownAt s sp d n d .taken
+      position = subst (λ (x : ℕ). suc (positionOf (W′ (pageAt x))) ≡ grownAt s sp d n d .taken) here (H′ .current d l some .position)
 
       below : (a a′ q t : ℕ) → a′ ≡ a → suc q ≡ t → a′ < t → suc a′ ≢ t → a < q
       below a a′ q t e f g x = omega arith
 
       go : Dec (suc (positionOf (W′ (pageAt i))) ≡ grownAt s sp d n d .taken) → (positionOf (W (pageAt i)) < positionOf (W′ (pageAt page))) ⊎ (i ≡ page)
       go (yes p) = inr (omega (arith, last-page s (grownAt s sp d n) W′ H′ d i l b o′ p, c))
-      go (no p) = inl (below _ _ _ _ (K .position) place (H′ .order d i l b o′) p)
+      go (no p) = inl (below _ _ _ _ (K .position) position (H′ .order d i l b o′) p)
 
   placed : Placed s W W′ d page offset n
   placed =
@@ -84,11 +84,11 @@ module _ (s : Sizes) (sp : ℕ → Space) (W W′ : ℕ → ℕ) (d page offset 
 module _ (s : Sizes) (sp : ℕ → Space) (lists : Bytes) (d n : ℕ) (r : InRange s) (f : listBytes s ≤ length lists) (H : PagesAt s sp (wordAt lists)) (l : d < dictionaries) where
   -- Behind what the current page has.
   pub placed-current : fits (s .p) (sp d) n ≡ true
-      → Placed s (wordAt lists) (wordAt (extended lists (currentOf (wordAt lists) d) (sp d .used + n))) d (currentOf (wordAt lists) d) (sp d .used) n
+      → Placed s (wordAt lists) (wordAt (extendedPage lists (currentOf (wordAt lists) d) (sp d .used + n))) d (currentOf (wordAt lists) d) (sp d .used) n
   placed-current e =
       let t : 0 < sp d .taken = fits-facts (s .p) (sp d) n e .0 in
       let C = H .current d l t in
-      let c : wordAt (extended lists (currentOf (wordAt lists) d) (sp d .used + n)) (currentAt d) ≡ wordAt lists (currentAt d) =
+      let c : wordAt (extendedPage lists (currentOf (wordAt lists) d) (sp d .used + n)) (currentAt d) ≡ wordAt lists (currentAt d) =
       extended-other lists (currentOf (wordAt lists) d) (sp d .used + n) (currentAt d) (omega arith) in
       placed s sp (wordAt lists) _ d (currentOf (wordAt lists) d) (sp d .used) n l H (extended-holds s sp lists d n r f H l e)
       (omega (arith, c, C .some))
@@ -129,20 +129,20 @@ module _ (s : Sizes) (W W₁ W₂ : ℕ → ℕ) (d page offset len : ℕ) (A : 
 -- ---- the page's words are apart from the dictionaries'
 
 -- Lists that agree from the dictionaries' words on, and on their counts.
-pub record SameBeyond (s : Sizes) (lists lists′ : Bytes) : Type 0 where
+pub record ListsBeyond (s : Sizes) (lists lists′ : Bytes) : Type 0 where
   pub words : (j : ℕ) → 64 + s .n ≤ j → wordAt lists′ j ≡ wordAt lists j
   pub quads : (j : ℕ) → 2 * (64 + s .n) ≤ j → quadAt lists′ j ≡ quadAt lists j
   pub counts : (k : ℕ) → k < dictionaries → wordAt lists′ (countAt k) ≡ wordAt lists (countAt k)
 
-pub beyond-extended : (s : Sizes) (lists : Bytes) (page used : ℕ) → page < s .n → SameBeyond s lists (extended lists page used)
+pub beyond-extended : (s : Sizes) (lists : Bytes) (page used : ℕ) → page < s .n → ListsBeyond s lists (extendedPage lists page used)
 beyond-extended s lists page used l =
     record {
       words = λ j h. extended-other lists page used j (omega arith);
-      quads = λ j h. quad-agree (extended lists page used) lists j (λ k g. extended-beyond lists page used (4 * j + k) (omega arith));
+      quads = λ j h. quad-agree (extendedPage lists page used) lists j (λ k g. extended-beyond lists page used (4 * j + k) (omega arith));
       counts = λ k h. extended-other lists page used (countAt k) (omega arith);
     }
 
-pub beyond-took : (s : Sizes) (lists : Bytes) (d page used : ℕ) → d < dictionaries → page < s .n → SameBeyond s lists (tookPage lists d page used)
+pub beyond-took : (s : Sizes) (lists : Bytes) (d page used : ℕ) → d < dictionaries → page < s .n → ListsBeyond s lists (tookPage lists d page used)
 beyond-took s lists d page used dl l =
     record {
       words = λ j h. took-other lists d page used j (omega arith) (omega arith) (omega arith) (omega arith);
@@ -150,7 +150,7 @@ beyond-took s lists d page used dl l =
       counts = λ k h. took-other lists d page used (countAt k) (omega arith) (omega arith) (omega arith) (omega arith);
     }
 
-pub step-beyond : (s : Sizes) (lists lists₁ lists₂ : Bytes) (d n page offset len stamp place h : ℕ) → d < dictionaries → SameBeyond s lists₁ lists₂
+pub step-beyond : (s : Sizes) (lists lists₁ lists₂ : Bytes) (d n page offset len stamp place h : ℕ) → d < dictionaries → ListsBeyond s lists₁ lists₂
     → Step s lists lists₁ d n page offset len stamp place h → Step s lists lists₂ d n page offset len stamp place h
 step-beyond s lists lists₁ lists₂ d n page offset len stamp place h dl B S =
     record {

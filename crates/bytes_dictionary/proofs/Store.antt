@@ -17,13 +17,13 @@ use Rattle.layout.specs.declared.Sizes.{Sizes}
 use Rattle.layout.specs.Sizes.{InRange, dictionaries, pageSize, pageBytes, listBytes}
 use Rattle.layout.specs.Fields.{untakenAt, placeAt}
 use Rattle.layout.proofs.Ranges.{page-size}
+use Rattle.layout.specs.Header.{Lent}
 use Rattle.bytes_index.specs.Entries.{Entries, Misses}
-use Rattle.bytes_index.specs.Search.{Fits}
 use Rattle.bytes_index.proofs.Index.{place-fits}
 use Rattle.bytes_buffer.specs.declared.Spot.{Spot}
 use Rattle.bytes_buffer.specs.declared.Spot.the-variants.{Current, Next, NoPage, Bad}
 use Rattle.bytes_buffer.specs.Pages.{fits, upd, grownAt, allPages}
-use Rattle.bytes_buffer.specs.Spots.{nextOf, currentOf, spotIn, extended, tookPage}
+use Rattle.bytes_buffer.specs.Spots.{nextOf, currentOf, spotIn, extendedPage, tookPage}
 use Rattle.bytes_buffer.proofs.Pages.{size-is, fits-facts}
 use Rattle.bytes_buffer.specs.Tables.{PagesAt}
 use Rattle.bytes_buffer.proofs.Spots.{next-is, next-none}
@@ -66,7 +66,7 @@ dict-as s pages lists d es es′ c c′ t t′ p q r D =
     subst (λ (x : Entries). DictAt s pages lists d x c′ t′) p
     (subst (λ (x : ℕ). DictAt s pages lists d es x t′) q (subst (λ (x : ℕ → ℕ). DictAt s pages lists d es c x) r D))
 
-module _ (s : Sizes) (st : Store) (pages lists : Bytes) (d place stamp : ℕ) (key : Bytes) (F : Fits s pages lists d) (S : StoreAt s st pages lists)
+module _ (s : Sizes) (st : Store) (pages lists : Bytes) (d place stamp : ℕ) (key : Bytes) (F : Lent s pages lists dictionaries d) (S : StoreAt s st pages lists)
     (room : st .count d < s .e) (short : length key ≤ pageSize s) (stamp-fits : stamp < 2 ^ 64)
     (later : (i : ℕ) → i + 1 ≡ st .count d → st .stamp d i < stamp) (pl : place < 2 * s .e)
     (M : Misses s (λ j. quadAt lists (placeAt s d j)) (st .entries d) key place) where
@@ -135,13 +135,13 @@ module _ (s : Sizes) (st : Store) (pages lists : Bytes) (d place stamp : ℕ) (k
       let L : Bytes = lists₁ g o p i in
       let A = tables₁ g o p i in
       let c : currentOf (wordAt L) d ≡ g = ap (λ (y : ℕ). y - 1) (A .current d (F .known)) in
-      let H : PagesAt s (grownAt s (st .space) d (length key)) (wordAt (extended L g (o + length key))) =
-      subst (λ (y : ℕ). PagesAt s (grownAt s (st .space) d (length key)) (wordAt (extended L y (o + length key)))) c
+      let H : PagesAt s (grownAt s (st .space) d (length key)) (wordAt (extendedPage L g (o + length key))) =
+      subst (λ (y : ℕ). PagesAt s (grownAt s (st .space) d (length key)) (wordAt (extendedPage L y (o + length key)))) c
       (extended-holds s (st .space) L d (length key) (F .ranged) (fits₁ g o p i) (pages₁ g o p i) (F .known) e) in
-      let P : Placed s (wordAt L) (wordAt (extended L g (o + length key))) d g o (length key) =
-      subst (λ (y : ℕ). Placed s (wordAt L) (wordAt (extended L y (o + length key))) d y o (length key)) c
+      let P : Placed s (wordAt L) (wordAt (extendedPage L g (o + length key))) d g o (length key) =
+      subst (λ (y : ℕ). Placed s (wordAt L) (wordAt (extendedPage L y (o + length key))) d y o (length key)) c
       (placed-current s (st .space) L d (length key) (F .ranged) (fits₁ g o p i) (pages₁ g o p i) (F .known) e) in
-      finish g o (extended L g (o + length key))
+      finish g o (extendedPage L g (o + length key))
       (step-beyond s lists L _ d (st .count d) g o (length key) stamp place (fnvOf key) (F .known) (beyond-extended s L g (o + length key) p) (step₁ g o p i))
       (placed-same s (wordAt lists) (wordAt L) _ d g o (length key) A P)
       H

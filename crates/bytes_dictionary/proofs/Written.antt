@@ -11,7 +11,7 @@ use Rattle.layout.specs.declared.Sizes.{Sizes}
 use Rattle.layout.specs.Sizes.{pageSize}
 use Rattle.bytes_buffer.specs.declared.Spot.{Spot}
 use Rattle.bytes_buffer.specs.declared.Spot.the-variants.{Current, Next, NoPage, Bad}
-use Rattle.bytes_buffer.specs.Spots.{InPages, extended, tookPage}
+use Rattle.bytes_buffer.specs.Spots.{InPages, extendedPage, tookPage}
 use Rattle.bytes_dictionary.specs.declared.Room.the-variants.{At, Nothing}
 use Rattle.bytes_dictionary.specs.Written.{entryWritten, pagesAfter, listsAfter, roomOf, HasRoom, IsSpot}
 
@@ -66,7 +66,7 @@ module _ (s : Sizes) (pages lists : Bytes) (d n place : ℕ) (spot : Spot) (stam
 
   pub after-current : (page offset len h : ℕ) (pages′ lists₁ lists₂ : Bytes) → spot ≡ Current page offset → len ≡ length key → h ≡ fnvOf key
       → pages′ ≡ sets pages (page * pageSize s + offset) key → lists₁ ≡ entryWritten s lists d n page offset len stamp place h
-      → lists₂ ≡ extended lists₁ page (offset + len) → After pages′ lists₂
+      → lists₂ ≡ extendedPage lists₁ page (offset + len) → After pages′ lists₂
   unfolding pagesAfter listsAfter
   after-current page offset len h pages′ lists₁ lists₂ e l f p q r = rw e (p, cc)
 

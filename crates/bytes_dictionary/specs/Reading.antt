@@ -27,12 +27,12 @@ Gives pages none (At at len) = ⊥
 Gives pages none Nothing = Unit {0}
 Gives pages none Bad = ⊥
 
-abbrev pub Inside : Sizes → Lookup → Type 0
-Inside s (At at len) = at + len ≤ pageBytes s
-Inside s Nothing = Unit {0}
-Inside s Bad = Unit {0}
+abbrev pub LookupInside : Sizes → Lookup → Type 0
+LookupInside s (At at len) = at + len ≤ pageBytes s
+LookupInside s Nothing = Unit {0}
+LookupInside s Bad = Unit {0}
 
 -- What a lookup of entry i of dictionary d answers: its part lies in the pages whatever the memory is.
 pub record Looked (s : Sizes) (d i : ℕ) (lists : Bytes) (r : Lookup) : Type 0 where
-  pub inside : Inside s r
+  pub inside : LookupInside s r
   pub right : (pages : Bytes) (st : Store) → pageBytes s ≤ length pages → StoreAt s st pages lists → Gives pages (st .entries d i) r

@@ -11,7 +11,7 @@ use Rattle.layout.specs.Sizes.{dictionaries}
 use Rattle.layout.specs.Header.{HeaderOf}
 use Rattle.layout.specs.Fields.{countAt, entryAt, orderAt, pageAt, pageOf, offsetOf, sizeOf, ownerOf, usedOf, positionOf}
 use Rattle.bytes_index.specs.Entries.{Entries}
-use Rattle.bytes_index.specs.Search.{Held}
+use Rattle.bytes_index.specs.Search.{HoldsEntries}
 use Rattle.bytes_buffer.specs.Pages.{Space, noSpace, upd, grownAt}
 use Rattle.bytes_buffer.specs.Tables.{PagesAt}
 
@@ -45,12 +45,12 @@ pub record Lies (W : ℕ → ℕ) (d w : ℕ) : Type 0 where
   pub ends : offsetOf w + sizeOf w ≤ usedOf (pageWordOf W w)
 
 -- One entry word lies before another: in an earlier page of their dictionary, or before it in one page.
-abbrev pub Before : (ℕ → ℕ) → ℕ → ℕ → Type 0
-Before W w w′ = (positionOf (pageWordOf W w) < positionOf (pageWordOf W w′)) ⊎ ((pageOf w ≡ pageOf w′) × (offsetOf w + sizeOf w ≤ offsetOf w′))
+abbrev pub LiesBefore : (ℕ → ℕ) → ℕ → ℕ → Type 0
+LiesBefore W w w′ = (positionOf (pageWordOf W w) < positionOf (pageWordOf W w′)) ⊎ ((pageOf w ≡ pageOf w′) × (offsetOf w + sizeOf w ≤ offsetOf w′))
 
 -- Dictionary d of a memory has these entries, `count` of them, with these stamps.
 pub record DictAt (s : Sizes) (pages lists : Bytes) (d : ℕ) (es : Entries) (count : ℕ) (stamp : ℕ → ℕ) : Type 0 where
-  pub held : Held s d pages lists es
+  pub held : HoldsEntries s d pages lists es
   pub counted : wordAt lists (countAt d) ≡ count
   pub most : count ≤ s .e
   -- an entry is in use exactly below the count
@@ -58,7 +58,7 @@ pub record DictAt (s : Sizes) (pages lists : Bytes) (d : ℕ) (es : Entries) (co
   pub past : (i : ℕ) → count ≤ i → es i ≡ none
   -- each lies in what is used of a page of this dictionary, before the next one
   pub lies : (i : ℕ) → i < count → Lies (wordAt lists) d (wordAt lists (entryAt s d i))
-  pub rises : (i : ℕ) → i + 1 < count → Before (wordAt lists) (wordAt lists (entryAt s d i)) (wordAt lists (entryAt s d (i + 1)))
+  pub rises : (i : ℕ) → i + 1 < count → LiesBefore (wordAt lists) (wordAt lists (entryAt s d i)) (wordAt lists (entryAt s d (i + 1)))
   pub stamped : (i : ℕ) → i < count → wordAt lists (orderAt s d i) ≡ stamp i
   -- each stamp is above the one before
   pub rising : (i : ℕ) → i + 1 < count → stamp i < stamp (i + 1)

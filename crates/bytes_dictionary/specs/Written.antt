@@ -10,7 +10,7 @@ use Rattle.layout.specs.Sizes.{pageSize}
 use Rattle.layout.specs.Fields.{countAt, entryAt, orderAt, placeAt, entryWord, placeWord}
 use Rattle.bytes_buffer.specs.declared.Spot.{Spot}
 use Rattle.bytes_buffer.specs.declared.Spot.the-variants.{Current, Next, NoPage, Bad}
-use Rattle.bytes_buffer.specs.Spots.{extended, tookPage}
+use Rattle.bytes_buffer.specs.Spots.{extendedPage, tookPage}
 use Rattle.bytes_dictionary.specs.declared.Room.{Room}
 use Rattle.bytes_dictionary.specs.declared.Room.the-variants.{At, Nothing}
 
@@ -34,7 +34,7 @@ pagesAfter s pages Bad key = pages
 
 unfoldable pub listsAfter : Sizes → Bytes → ℕ → ℕ → ℕ → Spot → ℕ → Bytes → Bytes
 listsAfter s lists d n place (Current page offset) stamp key =
-    extended (entryWritten s lists d n page offset (length key) stamp place (fnvOf key)) page (offset + length key)
+    extendedPage (entryWritten s lists d n page offset (length key) stamp place (fnvOf key)) page (offset + length key)
 listsAfter s lists d n place (Next page) stamp key = tookPage (entryWritten s lists d n page 0 (length key) stamp place (fnvOf key)) d page (length key)
 listsAfter s lists d n place NoPage stamp key = lists
 listsAfter s lists d n place Bad stamp key = lists

@@ -16,7 +16,8 @@ ghost use Rattle.words.specs.Words.{wordAt};
 ghost use Rattle.fnv.specs.Fnv.{fnvOf};
 ghost use Rattle.layout.specs.Sizes.{InRange, dictionaries, pageSize, listBytes};
 ghost use Rattle.layout.specs.Fields.{countAt, entryWord, placeWord};
-ghost use Rattle.bytes_index.specs.Search.{keyOf, Fits};
+ghost use Rattle.layout.specs.Header.{Lent};
+ghost use Rattle.bytes_index.specs.Search.{keyBytes};
 ghost use Rattle.bytes_dictionary.specs.Written.{entryWritten, pagesAfter, listsAfter, HasRoom, roomOf};
 ghost use Rattle.bytes_dictionary.specs.Reading.{countIn, Looked};
 
@@ -43,8 +44,8 @@ pub fn count(lists: &[u8], s: Sizes, d: usize) -> Counted
 
 // Writes a key at the start of its page's tail: its front, and the rest behind it.
 fn write_tail(tail: &mut [u8], mode: Mode, front: &[u8], rest: &[u8])
-    requires { ⌜ length (keyOf mode (now front) (now rest)) ≤ length (now tail) ⌝ }
-    ensures { λ _. ⌜ now (tail .exit) ≡ sets (now (tail .entry)) 0 (keyOf mode (now (front .entry)) (now (rest .entry))) ⌝ }
+    requires { ⌜ length (keyBytes mode (now front) (now rest)) ≤ length (now tail) ⌝ }
+    ensures { λ _. ⌜ now (tail .exit) ≡ sets (now (tail .entry)) 0 (keyBytes mode (now (front .entry)) (now (rest .entry))) ⌝ }
 {
     let m = parts::measure(mode, front);
     parts::write(mode, front, tail);
@@ -53,8 +54,8 @@ fn write_tail(tail: &mut [u8], mode: Mode, front: &[u8], rest: &[u8])
 
 // Writes a key at `at` of the pages. Its page ends at `end`: the tail from the key on is lent to the byte writer, and no byte of another page.
 fn write_key(pages: &mut [u8], at: usize, end: usize, mode: Mode, front: &[u8], rest: &[u8])
-    requires { ⌜ (at + length (keyOf mode (now front) (now rest)) ≤ end) × (end ≤ length (now pages)) ⌝ }
-    ensures { λ _. ⌜ now (pages .exit) ≡ sets (now (pages .entry)) at (keyOf mode (now (front .entry)) (now (rest .entry))) ⌝ }
+    requires { ⌜ (at + length (keyBytes mode (now front) (now rest)) ≤ end) × (end ≤ length (now pages)) ⌝ }
+    ensures { λ _. ⌜ now (pages .exit) ≡ sets (now (pages .entry)) at (keyBytes mode (now (front .entry)) (now (rest .entry))) ⌝ }
 {
     write_tail(&mut pages[at..end], mode, front, rest);
 }
@@ -67,7 +68,7 @@ struct Extent {
 }
 
 // The same in one word.
-fn pack(lies: Extent) -> usize
+fn entry_word(lies: Extent) -> usize
     requires { ⌜ (lies .page < 1024) × (lies .offset ≤ 1048576) × (lies .len ≤ 1048576) ⌝ }
     ensures { λ r. ⌜ r ≡ entryWord (lies .page) (lies .offset) (lies .len) ⌝ }
 {
@@ -83,7 +84,7 @@ fn place_word(n: usize, h: u32) -> usize
 }
 
 // What a fresh entry gets: its dictionary and its number there, the index place that names it, and its stamp; and its key's hash.
-pub struct Fresh {
+pub struct NewEntry {
     pub d: usize,
     pub n: usize,
     pub place: usize,
@@ -92,7 +93,7 @@ pub struct Fresh {
 }
 
 // Writes the words of a fresh entry: where it lies, its stamp, the place that names it, and the count.
-fn write_entry(lists: &mut [u8], s: Sizes, x: Fresh, lies: Extent)
+fn write_entry(lists: &mut [u8], s: Sizes, x: NewEntry, lies: Extent)
     requires { ⌜ InRange s × (listBytes s ≤ length (now lists)) × (x .d < dictionaries) × (x .n < s .e) × (x .place < 2 * s .e) ⌝ }
     requires { ⌜ (lies .page < 1024) × (lies .offset ≤ 1048576) × (lies .len ≤ 1048576) ⌝ }
     ensures { λ _. ⌜ now (lists .exit) ≡ entryWritten s (now (lists .entry)) (x .d) (x .n) (lies .page) (lies .offset) (lies .len) (x .stamp) (x .place) (x .h) ⌝ }
@@ -100,26 +101,26 @@ fn write_entry(lists: &mut [u8], s: Sizes, x: Fresh, lies: Extent)
     let e = s.e;
     let n = x.n;
     let base = layout::dict_at(s, x.d);
-    words::put_word(lists, base + n, pack(lies));
+    words::put_word(lists, base + n, entry_word(lies));
     words::put_word(lists, base + (e + n), x.stamp);
     words::put_quad(lists, 2 * (base + 2 * e) + x.place, place_word(n, x.h));
     words::put_word(lists, COUNT + STRIDE * x.d, n + 1);
 }
 
 // Writes an entry's bytes and its words.
-fn write_at(
+fn place_entry(
     pages: &mut [u8],
     lists: &mut [u8],
     s: Sizes,
-    x: Fresh,
+    x: NewEntry,
     lies: Extent,
     mode: Mode,
     front: &[u8],
     rest: &[u8],
 )
-    requires { ⌜ Fits s (now pages) (now lists) (x .d) × (x .n < s .e) × (x .place < 2 * s .e) ⌝ }
-    requires { ⌜ (lies .page < s .n) × (lies .offset + lies .len ≤ pageSize s) × (lies .len ≡ length (keyOf mode (now front) (now rest))) ⌝ }
-    ensures pages { λ _. ⌜ now (pages .exit) ≡ sets (now (pages .entry)) (lies .page * pageSize s + lies .offset) (keyOf mode (now (front .entry)) (now (rest .entry))) ⌝ }
+    requires { ⌜ Lent s (now pages) (now lists) dictionaries (x .d) × (x .n < s .e) × (x .place < 2 * s .e) ⌝ }
+    requires { ⌜ (lies .page < s .n) × (lies .offset + lies .len ≤ pageSize s) × (lies .len ≡ length (keyBytes mode (now front) (now rest))) ⌝ }
+    ensures pages { λ _. ⌜ now (pages .exit) ≡ sets (now (pages .entry)) (lies .page * pageSize s + lies .offset) (keyBytes mode (now (front .entry)) (now (rest .entry))) ⌝ }
     ensures lists { λ _. ⌜ now (lists .exit) ≡ entryWritten s (now (lists .entry)) (x .d) (x .n) (lies .page) (lies .offset) (lies .len) (x .stamp) (x .place) (x .h) ⌝ }
 {
     let size = layout::page_size(s);
@@ -150,23 +151,23 @@ pub fn insert(
     pages: &mut [u8],
     lists: &mut [u8],
     s: Sizes,
-    x: Fresh,
+    x: NewEntry,
     spot: Spot,
     mode: Mode,
     front: &[u8],
     rest: &[u8],
 )
-    requires { ⌜ Fits s (now pages) (now lists) (x .d) × (x .n < s .e) × (x .place < 2 * s .e) ⌝ }
-    requires { ⌜ HasRoom s (length (keyOf mode (now front) (now rest))) spot ⌝ }
-    requires { ⌜ x .h ≡ fnvOf (keyOf mode (now front) (now rest)) ⌝ }
-    ensures pages { λ _. ⌜ now (pages .exit) ≡ pagesAfter s (now (pages .entry)) spot (keyOf mode (now (front .entry)) (now (rest .entry))) ⌝ }
-    ensures lists { λ _. ⌜ now (lists .exit) ≡ listsAfter s (now (lists .entry)) (x .d) (x .n) (x .place) spot (x .stamp) (keyOf mode (now (front .entry)) (now (rest .entry))) ⌝ }
+    requires { ⌜ Lent s (now pages) (now lists) dictionaries (x .d) × (x .n < s .e) × (x .place < 2 * s .e) ⌝ }
+    requires { ⌜ HasRoom s (length (keyBytes mode (now front) (now rest))) spot ⌝ }
+    requires { ⌜ x .h ≡ fnvOf (keyBytes mode (now front) (now rest)) ⌝ }
+    ensures pages { λ _. ⌜ now (pages .exit) ≡ pagesAfter s (now (pages .entry)) spot (keyBytes mode (now (front .entry)) (now (rest .entry))) ⌝ }
+    ensures lists { λ _. ⌜ now (lists .exit) ≡ listsAfter s (now (lists .entry)) (x .d) (x .n) (x .place) spot (x .stamp) (keyBytes mode (now (front .entry)) (now (rest .entry))) ⌝ }
 {
     let Room::At { page, offset } = room_at(spot) else {
         return;
     };
     let len = parts::measure(mode, front) + rest.len();
-    write_at(
+    place_entry(
         pages,
         lists,
         s,
@@ -191,7 +192,7 @@ pub enum Lookup {
     Bad,
 }
 
-pub fn locate(lists: &[u8], s: Sizes, d: usize, id: EntryId) -> Lookup
+pub fn look_up(lists: &[u8], s: Sizes, d: usize, id: EntryId) -> Lookup
     requires { ⌜ InRange s × (listBytes s ≤ length (now lists)) × (d < dictionaries) ⌝ }
     ensures { λ r. ⌜ Looked s d (id .0) (now (lists .entry)) r ⌝ }
 {

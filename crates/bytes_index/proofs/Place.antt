@@ -4,18 +4,18 @@ use Prim.Native.Nat.{ℕ, _+_, _-_, _%_, _≤_, _<_}
 use native.Mathlib.Omega.{arith}
 use native.Mathlib.Nat.{mod-lt, mod-eq-of-lt, mod-add-mod, add-mod-right, mod-self, add-zero}
 use native.Mathlib.Decide.{decLe}
-use Rattle.bytes_index.specs.Place.{place}
+use Rattle.bytes_index.specs.Place.{placeAfter}
 
-pub place-lt : (m h k : ℕ) → 0 < m → place m h k < m
-unfolding place
+pub place-lt : (m h k : ℕ) → 0 < m → placeAfter m h k < m
+unfolding placeAfter
 place-lt m h k p = mod-lt (h + k) p
 
-pub place-zero : (m h : ℕ) → place m h 0 ≡ h % m
-unfolding place
+pub place-zero : (m h : ℕ) → placeAfter m h 0 ≡ h % m
+unfolding placeAfter
 place-zero m h = rw add-zero
 
-pub place-next : (m h k : ℕ) → place m h (k + 1) ≡ (place m h k + 1) % m
-unfolding place
+pub place-next : (m h k : ℕ) → placeAfter m h (k + 1) ≡ (placeAfter m h k + 1) % m
+unfolding placeAfter
 place-next m h k =
     let e : h + (k + 1) ≡ h + k + 1 = omega arith in
     rw e (sym (mod-add-mod (h + k) m 1))
@@ -31,10 +31,10 @@ up-wraps m j e = rw e (mod-self m)
 pub record Visit (m h j : ℕ) : Type 0 where
   pub step : ℕ
   pub near : step < m
-  pub here : place m h step ≡ j
+  pub here : placeAfter m h step ≡ j
 
 pub place-onto : (m h j : ℕ) → j < m → Visit m h j
-unfolding place
+unfolding placeAfter
 place-onto m h j l = go (decLe (h % m) j)
   where
     r : h % m < m

@@ -17,8 +17,8 @@ use Rattle.layout.specs.Sizes.{pageSize, pageBytes}
 use Rattle.layout.specs.Fields.{pageOf, offsetOf, sizeOf}
 use Rattle.bytes_index.specs.declared.Span.{Span}
 use Rattle.bytes_index.specs.declared.Span.the-variants.{At, Bad}
-use Rattle.bytes_index.specs.Entries.{addressOf, Stands}
-use Rattle.bytes_index.specs.Field.{entryField, Inside, Located}
+use Rattle.bytes_index.specs.Entries.{addressOf, Addresses}
+use Rattle.bytes_index.specs.Field.{entryField, SpanInside, SpanOf}
 use Rattle.bytes_index.specs.Search.{frontIs, Agree}
 
 -- ---- an entry's word
@@ -63,14 +63,14 @@ field-bad s w h = go (split (ltb (pageOf w) (s .n) && leb (offsetOf w + sizeOf w
     go (inr p) = rw p
 
 -- An entry that was read: what its word says, inside the pages.
-pub located : (s : Sizes) (pages : Bytes) (w at len : ℕ) (r : Span) → pageBytes s ≤ length pages → Located s w r → r ≡ At at len
+pub located : (s : Sizes) (pages : Bytes) (w at len : ℕ) (r : Span) → pageBytes s ≤ length pages → SpanOf s w r → r ≡ At at len
     → (entryField s w ≡ At at len) × (at + len ≤ length pages)
-located s pages w at len r l L e = (sym (L .field) ∙ e, omega (arith, subst (Inside s) e (L .inside)))
+located s pages w at len r l L e = (sym (L .field) ∙ e, omega (arith, subst (SpanInside s) e (L .inside)))
 
 -- ---- the part of the pages
 
 -- The bytes that an entry's word stands for are those of the part.
-pub stands-part : (s : Sizes) (pages : Bytes) (w : ℕ) (key : Bytes) → addressOf s w + sizeOf w ≤ length pages → Stands s (λ a. getD pages a 0) w key
+pub stands-part : (s : Sizes) (pages : Bytes) (w : ℕ) (key : Bytes) → addressOf s w + sizeOf w ≤ length pages → Addresses s (λ a. getD pages a 0) w key
     → take (sizeOf w) (drop (addressOf s w) pages) ≡ key
 stands-part s pages w key l t =
     let n : ℕ = sizeOf w in
@@ -80,7 +80,7 @@ stands-part s pages w key l t =
     ext-getD 0 (take n (drop a pages)) key (e ∙ z) (λ i h. getD-take n (drop a pages) i 0 (omega arith) ∙ getD-drop a pages i 0 ∙ t .bytes i (omega arith))
 
 pub part-stands : (s : Sizes) (pages : Bytes) (w : ℕ) (key : Bytes) → pageOf w < s .n → offsetOf w + sizeOf w ≤ pageSize s
-    → addressOf s w + sizeOf w ≤ length pages → take (sizeOf w) (drop (addressOf s w) pages) ≡ key → Stands s (λ a. getD pages a 0) w key
+    → addressOf s w + sizeOf w ≤ length pages → take (sizeOf w) (drop (addressOf s w) pages) ≡ key → Addresses s (λ a. getD pages a 0) w key
 part-stands s pages w key p q l e =
     let n : ℕ = sizeOf w in
     let a : ℕ = addressOf s w in
@@ -155,10 +155,10 @@ module _ (s : Sizes) (pages : Bytes) (w at len : ℕ) (front rest key : Bytes) (
   unfolding part
   part-byte i l = getD-take (at + len - at) (drop at pages) i 0 (omega arith) ∙ getD-drop at pages i 0
 
-  same-part : Stands s (λ a. getD pages a 0) w key → part ≡ front ++ rest
+  same-part : Addresses s (λ a. getD pages a 0) w key → part ≡ front ++ rest
   same-part t = part-is ∙ stands-part s pages w key ended t ∙ sym whole
 
-  pub not-front : frontIs (take (at + len - at) (drop at pages)) front (length rest) ≡ false → Stands s (λ a. getD pages a 0) w key → ⊥
+  pub not-front : frontIs (take (at + len - at) (drop at pages)) front (length rest) ≡ false → Addresses s (λ a. getD pages a 0) w key → ⊥
   unfolding part
   not-front e t = clash (ap (λ (x : Bytes). frontIs x front (length rest)) (same-part t) ∙ front-own front rest) e
 
@@ -172,13 +172,13 @@ module _ (s : Sizes) (pages : Bytes) (w at len : ℕ) (front rest key : Bytes) (
         let a : at + (length front + (length rest - k)) ≡ at + len - k = omega (arith, sized) in
         part-byte (length front + (length rest - k)) (omega (arith, sized)) ∙ ap (λ (x : ℕ). getD pages x 0) a
 
-    pub not-all : (Agree pages (at + len) rest 0 (length rest) → ⊥) → Stands s (λ a. getD pages a 0) w key → ⊥
+    pub not-all : (Agree pages (at + len) rest 0 (length rest) → ⊥) → Addresses s (λ a. getD pages a 0) w key → ⊥
     not-all n t =
         n
         (λ k z l.
         sym (rest-byte k z l) ∙ ap (λ (x : Bytes). getD x (length front + (length rest - k)) 0) (same-part t) ∙ getD-append-add front rest (length rest - k) 0)
 
-    pub all-bytes : Agree pages (at + len) rest 0 (length rest) → Stands s (λ a. getD pages a 0) w key
+    pub all-bytes : Agree pages (at + len) rest 0 (length rest) → Addresses s (λ a. getD pages a 0) w key
     unfolding part
     all-bytes h =
         let n : ℕ = length front in

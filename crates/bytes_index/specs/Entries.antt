@@ -10,7 +10,7 @@ use Rattle.fnv.specs.Fnv.{fnvOf}
 use Rattle.layout.specs.declared.Sizes.{Sizes}
 use Rattle.layout.specs.Sizes.{pageSize}
 use Rattle.layout.specs.Fields.{pageOf, offsetOf, sizeOf, placeWord}
-use Rattle.bytes_index.specs.Place.{place}
+use Rattle.bytes_index.specs.Place.{placeAfter}
 use Rattle.bytes_index.specs.Filled.{filled}
 
 -- The bytes of an entry by its number; none where the number is not in use.
@@ -26,7 +26,7 @@ abbrev pub addressOf : Sizes → ℕ → ℕ
 addressOf s w = pageOf w * pageSize s + offsetOf w
 
 -- The entry word w stands for the bytes of key, which lie in one page.
-pub record Stands (s : Sizes) (B : ℕ → ℕ) (w : ℕ) (key : Bytes) : Type 0 where
+pub record Addresses (s : Sizes) (B : ℕ → ℕ) (w : ℕ) (key : Bytes) : Type 0 where
   pub paged : pageOf w < s .n
   pub inside : offsetOf w + sizeOf w ≤ pageSize s
   pub sized : sizeOf w ≡ length key
@@ -37,20 +37,20 @@ pub record Stands (s : Sizes) (B : ℕ → ℕ) (w : ℕ) (key : Bytes) : Type 0
 pub record Met (Q : ℕ → ℕ) (m h i : ℕ) : Type 0 where
   pub step : ℕ
   pub near : step < m
-  pub there : Q (place m h step) ≡ placeWord i h
-  pub full : (k : ℕ) → k < step → Q (place m h k) ≢ 0
+  pub there : Q (placeAfter m h step) ≡ placeWord i h
+  pub full : (k : ℕ) → k < step → Q (placeAfter m h k) ≢ 0
 
 -- The place j is the first empty one from h.
 pub record FreeAt (Q : ℕ → ℕ) (m h j : ℕ) : Type 0 where
   pub step : ℕ
   pub near : step < m
-  pub here : place m h step ≡ j
+  pub here : placeAfter m h step ≡ j
   pub empty : Q j ≡ 0
-  pub full : (k : ℕ) → k < step → Q (place m h k) ≢ 0
+  pub full : (k : ℕ) → k < step → Q (placeAfter m h k) ≢ 0
 
 -- The memory holds these entries: B are the pages' bytes, W the entry words, Q the index places, e and 2e of them.
 pub record Holds (s : Sizes) (B W Q : ℕ → ℕ) (es : Entries) : Type 0 where
-  pub entry : (i : ℕ) (key : Bytes) → es i ≡ some key → (i < s .e) × Stands s B (W i) key
+  pub entry : (i : ℕ) (key : Bytes) → es i ≡ some key → (i < s .e) × Addresses s B (W i) key
   pub names : (j : ℕ) → j < 2 * s .e → Q j ≢ 0 → (i : ℕ) × (key : Bytes) × (es i ≡ some key) × (Q j ≡ placeWord i (fnvOf key))
   pub met : (i : ℕ) (key : Bytes) → es i ≡ some key → Met Q (2 * s .e) (fnvOf key) i
   pub count : filled Q (2 * s .e) ≡ filled (λ i. used (es i)) (s .e)

@@ -15,10 +15,10 @@ unfoldable pub entryField : Sizes → ℕ → Span
 entryField s w = cond (ltb (pageOf w) (s .n) && leb (offsetOf w + sizeOf w) (pageSize s)) (At (addressOf s w) (sizeOf w)) Bad
 
 -- A span lies inside the pages.
-abbrev pub Inside : Sizes → Span → Type 0
-Inside s (At at len) = at + len ≤ pageBytes s
-Inside s Bad = Unit {0}
+abbrev pub SpanInside : Sizes → Span → Type 0
+SpanInside s (At at len) = at + len ≤ pageBytes s
+SpanInside s Bad = Unit {0}
 
-pub record Located (s : Sizes) (w : ℕ) (r : Span) : Type 0 where
+pub record SpanOf (s : Sizes) (w : ℕ) (r : Span) : Type 0 where
   pub field : r ≡ entryField s w
-  pub inside : Inside s r
+  pub inside : SpanInside s r

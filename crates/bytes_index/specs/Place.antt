@@ -2,5 +2,5 @@
 use Prim.Native.Nat.{ℕ, _+_, _%_}
 
 -- The place after k steps.
-unfoldable pub place : ℕ → ℕ → ℕ → ℕ
-place m h k = (h + k) % m
+unfoldable pub placeAfter : ℕ → ℕ → ℕ → ℕ
+placeAfter m h k = (h + k) % m

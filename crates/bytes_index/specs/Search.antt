@@ -14,13 +14,13 @@ use Rattle.parts.specs.Parts.{bytesOf}
 use Rattle.layout.specs.declared.Sizes.{Sizes}
 use Rattle.layout.specs.Sizes.{InRange, dictionaries, pageBytes, listBytes}
 use Rattle.layout.specs.Fields.{entryAt, placeAt}
-use Rattle.bytes_index.specs.Entries.{Entries, Stands, Met, FreeAt, Holds, Misses}
+use Rattle.bytes_index.specs.Entries.{Entries, Addresses, Met, FreeAt, Holds, Misses}
 use Rattle.bytes_index.specs.declared.Probe.{Probe}
 use Rattle.bytes_index.specs.declared.Probe.the-variants.{At, Free, Bad}
 
 -- A key is a front and a rest, where they lie.
-abbrev pub keyOf : Mode → Bytes → Bytes → Bytes
-keyOf mode front rest = bytesOf mode front ++ rest
+abbrev pub keyBytes : Mode → Bytes → Bytes → Bytes
+keyBytes mode front rest = bytesOf mode front ++ rest
 
 -- A stored key is this front and n bytes more.
 unfoldable pub frontIs : Bytes → Bytes → ℕ → Bool
@@ -36,16 +36,9 @@ pub record Agreeing (pages : Bytes) (end : ℕ) (rest : Bytes) (left r : ℕ) : 
   pub same : Agree pages end rest (left - r) left
   pub differ : r ≡ 0 → Agree pages end rest 0 (length rest) → ⊥
 
--- Slices long enough for the sizes, and a dictionary's number.
-pub record Fits (s : Sizes) (pages lists : Bytes) (d : ℕ) : Type 0 where
-  pub ranged : InRange s
-  pub pages-fit : pageBytes s ≤ length pages
-  pub lists-fit : listBytes s ≤ length lists
-  pub known : d < dictionaries
-
 -- Dictionary d of a memory holds these entries.
-abbrev pub Held : Sizes → ℕ → Bytes → Bytes → Entries → Type 0
-Held s d pages lists es = Holds s (λ a. getD pages a 0) (λ i. wordAt lists (entryAt s d i)) (λ j. quadAt lists (placeAt s d j)) es
+abbrev pub HoldsEntries : Sizes → ℕ → Bytes → Bytes → Entries → Type 0
+HoldsEntries s d pages lists es = Holds s (λ a. getD pages a 0) (λ i. wordAt lists (entryAt s d i)) (λ j. quadAt lists (placeAt s d j)) es
 
 -- The number of the key's entry; or where its search ended at an empty place; Bad never comes where the dictionary holds.
 abbrev pub Answer : Sizes → ℕ → Bytes → Entries → Bytes → Probe → Type 0
@@ -63,11 +56,11 @@ Ranged s Bad = Unit {0}
 -- wrapping to 0, comparing byte by byte, until an equal entry or an empty place ends it."
 abbrev pub Went : Sizes → ℕ → Bytes → Bytes → Bytes → Probe → Type 0
 Went s d pages lists key (At i) =
-    Met (λ j. quadAt lists (placeAt s d j)) (2 * s .e) (fnvOf key) i × Stands s (λ a. getD pages a 0) (wordAt lists (entryAt s d i)) key
+    Met (λ j. quadAt lists (placeAt s d j)) (2 * s .e) (fnvOf key) i × Addresses s (λ a. getD pages a 0) (wordAt lists (entryAt s d i)) key
 Went s d pages lists key (Free j) = FreeAt (λ k. quadAt lists (placeAt s d k)) (2 * s .e) (fnvOf key) j
 Went s d pages lists key Bad = Unit {0}
 
 pub record Searched (s : Sizes) (d : ℕ) (pages lists key : Bytes) (r : Probe) : Type 0 where
   pub range : Ranged s r
   pub went : Went s d pages lists key r
-  pub right : (es : Entries) → Held s d pages lists es → Answer s d lists es key r
+  pub right : (es : Entries) → HoldsEntries s d pages lists es → Answer s d lists es key r

@@ -13,8 +13,9 @@ ghost use Rattle.words.specs.Words.{wordAt};
 ghost use Rattle.parts.specs.Parts.{bytesOf};
 ghost use Rattle.layout.specs.Sizes.{InRange, dictionaries, listBytes};
 ghost use Rattle.layout.specs.Fields.{entryAt, topOf};
-ghost use Rattle.bytes_index.specs.Field.{Located};
-ghost use Rattle.bytes_index.specs.Search.{keyOf, frontIs, Fits, Agreeing, Searched};
+ghost use Rattle.layout.specs.Header.{Lent};
+ghost use Rattle.bytes_index.specs.Field.{SpanOf};
+ghost use Rattle.bytes_index.specs.Search.{keyBytes, frontIs, Agreeing, Searched};
 
 // A search ends at the entry of its key, or at an empty place. Bad: the memory is no dictionary's.
 pub enum Probe {
@@ -31,7 +32,7 @@ pub enum Span {
 
 // The hash of a key.
 pub fn hash(mode: Mode, front: &[u8], rest: &[u8]) -> u32
-    ensures { λ r. ⌜ r ≡ fnvOf (keyOf mode (now (front .entry)) (now (rest .entry))) ⌝ }
+    ensures { λ r. ⌜ r ≡ fnvOf (keyBytes mode (now (front .entry)) (now (rest .entry))) ⌝ }
 {
     let h = parts::hash_on(fnv::START, mode, front);
     fnv::fnv_from(h, rest)
@@ -66,7 +67,7 @@ fn up(j: usize, m: usize) -> usize
 // Where the bytes of entry i of dictionary d lie.
 pub fn entry(lists: &[u8], s: Sizes, d: usize, i: usize) -> Span
     requires { ⌜ InRange s × (listBytes s ≤ length (now lists)) × (d < dictionaries) × (i < s .e) ⌝ }
-    ensures { λ r. ⌜ Located s (wordAt (now (lists .entry)) (entryAt s d i)) r ⌝ }
+    ensures { λ r. ⌜ SpanOf s (wordAt (now (lists .entry)) (entryAt s d i)) r ⌝ }
 {
     let w = words::word_at(lists, layout::dict_at(s, d) + i);
     let page = w % PAGE_NUMBERS;
@@ -136,8 +137,8 @@ fn probe_index(
     front: &[u8],
     rest: &[u8],
 ) -> Probe
-    requires { ⌜ Fits s (now pages) (now lists) d × (h ≡ fnvOf (keyOf mode (now front) (now rest))) × (length (bytesOf mode (now front)) < 2 ^ 64) ⌝ }
-    ensures { λ r. ⌜ Searched s d (now (pages .entry)) (now (lists .entry)) (keyOf mode (now (front .entry)) (now (rest .entry))) r ⌝ }
+    requires { ⌜ Lent s (now pages) (now lists) dictionaries d × (h ≡ fnvOf (keyBytes mode (now front) (now rest))) × (length (bytesOf mode (now front)) < 2 ^ 64) ⌝ }
+    ensures { λ r. ⌜ Searched s d (now (pages .entry)) (now (lists .entry)) (keyBytes mode (now (front .entry)) (now (rest .entry))) r ⌝ }
 {
     let e = s.e;
     let m = 2 * e;
@@ -200,8 +201,8 @@ pub fn bytes_to_id(
     front: &[u8],
     rest: &[u8],
 ) -> Probe
-    requires { ⌜ Fits s (now pages) (now lists) d × (h ≡ fnvOf (keyOf mode (now front) (now rest))) × (length (bytesOf mode (now front)) < 2 ^ 64) ⌝ }
-    ensures { λ r. ⌜ Searched s d (now (pages .entry)) (now (lists .entry)) (keyOf mode (now (front .entry)) (now (rest .entry))) r ⌝ }
+    requires { ⌜ Lent s (now pages) (now lists) dictionaries d × (h ≡ fnvOf (keyBytes mode (now front) (now rest))) × (length (bytesOf mode (now front)) < 2 ^ 64) ⌝ }
+    ensures { λ r. ⌜ Searched s d (now (pages .entry)) (now (lists .entry)) (keyBytes mode (now (front .entry)) (now (rest .entry))) r ⌝ }
 {
     probe_index(&pages[..], &lists[..], s, d, h, mode, &front[..], &rest[..])
 }

@@ -2,20 +2,20 @@
 use crate::show;
 
 // What the memory lent holds, as two hashes.
-struct Held {
+struct Hashes {
     pages: u32,
     lists: u32,
 }
 
-fn hashed(pages: &[u8], lists: &[u8]) -> Held {
-    Held {
+fn hashed(pages: &[u8], lists: &[u8]) -> Hashes {
+    Hashes {
         pages: fnv::fnv(pages),
         lists: fnv::fnv(lists),
     }
 }
 
 // Says of a refused call whether it left the memory as found.
-fn left(refusal: u64, before: Held, after: Held) {
+fn left(refusal: u64, before: Hashes, after: Hashes) {
     if refusal != 0 {
         if before.pages == after.pages && before.lists == after.lists {
             show::text(b", memory as found");

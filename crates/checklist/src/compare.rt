@@ -1,11 +1,11 @@
 // Two numberings held against one another. A line is a number, a space and a name; `fresh` or `known` may stand before it. The names
-// of both are put into a dictionary whose numbers are below 65,536. Of each, `lines` has the line of the first numbering until the second has the
+// of both are put into a dictionary whose numbers are below 65,536. Of each, `first_lines` has the line of the first numbering until the second has the
 // name too, else 0, and `numbers` the number that was said of it last.
-use crate::book;
-use crate::book::Lists;
-use crate::book::NUMBERS;
-use crate::book::Numbers;
-use crate::book::Pages;
+use crate::dictionary;
+use crate::dictionary::Lists;
+use crate::dictionary::NUMBERS;
+use crate::dictionary::Numbers;
+use crate::dictionary::Pages;
 use crate::line;
 use crate::line::Decimal;
 use crate::number;
@@ -19,11 +19,11 @@ const WIDTH: u64 = 14;
 
 const COUNT: u64 = 4;
 
-pub fn start(pages: &Pages, lists: &mut Lists, lines: &mut Numbers) {
-    book::open(pages, lists, WIDTH, COUNT);
+pub fn start(pages: &Pages, lists: &mut Lists, first_lines: &mut Numbers) {
+    dictionary::open(pages, lists, WIDTH, COUNT);
     let mut i = 0;
     while i < NUMBERS {
-        lines[i] = 0;
+        first_lines[i] = 0;
         i += 1;
     }
 }
@@ -102,15 +102,15 @@ fn say(
     value: u64,
     s: &[u8],
     numbers: &mut Numbers,
-    lines: &mut Numbers,
+    first_lines: &mut Numbers,
 ) -> Tally {
     if i >= NUMBERS {
         return t;
     }
     let one = numbers[i];
-    let line = lines[i];
+    let line = first_lines[i];
     numbers[i] = value;
-    lines[i] = if second {
+    first_lines[i] = if second {
         0
     } else if new {
         t.line
@@ -134,7 +134,7 @@ pub fn line_of(
     pages: &mut Pages,
     lists: &mut Lists,
     numbers: &mut Numbers,
-    lines: &mut Numbers,
+    first_lines: &mut Numbers,
 ) -> Tally {
     let n = numbered(s);
     let end = n.end;
@@ -157,17 +157,17 @@ pub fn line_of(
         n.value,
         &s[end..],
         numbers,
-        lines,
+        first_lines,
     )
 }
 
 // The first line of the first numbering whose name the second has not.
-fn missing(lines: &Numbers) -> usize {
+fn missing(first_lines: &Numbers) -> usize {
     let mut least = 0;
     let mut found = NUMBERS;
     let mut i = 0;
     while i < NUMBERS {
-        let l = lines[i];
+        let l = first_lines[i];
         if l != 0 && (least == 0 || l < least) {
             least = l;
             found = i;
@@ -177,11 +177,11 @@ fn missing(lines: &Numbers) -> usize {
     found
 }
 
-fn how_many(lines: &Numbers) -> u64 {
+fn how_many(first_lines: &Numbers) -> u64 {
     let mut n = 0;
     let mut i = 0;
     while i < NUMBERS {
-        if lines[i] != 0 {
+        if first_lines[i] != 0 {
             n = report::one_more(n);
         }
         i += 1;
@@ -196,9 +196,9 @@ pub fn end(
     pages: &Pages,
     lists: &Lists,
     numbers: &Numbers,
-    lines: &Numbers,
+    first_lines: &Numbers,
 ) {
-    let i = missing(lines);
+    let i = missing(first_lines);
     if i < NUMBERS {
         report::text(b"first only in the first: ");
         report::number(numbers[i]);
@@ -211,7 +211,7 @@ pub fn end(
     report::text(b" agree, ");
     report::number(t.differ);
     report::text(b" differ, ");
-    report::number(how_many(lines));
+    report::number(how_many(first_lines));
     report::text(b" only in the first, ");
     report::number(t.added);
     report::text(b" only in the second; lines refused: ");

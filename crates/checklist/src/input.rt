@@ -1,8 +1,8 @@
 // The lines of a file, read through a buffer: no file is too long.
-use crate::book::Lists;
-use crate::book::Numbers;
-use crate::book::Pages;
 use crate::compare;
+use crate::dictionary::Lists;
+use crate::dictionary::Numbers;
+use crate::dictionary::Pages;
 use crate::line;
 use crate::number;
 use crate::report;
@@ -54,7 +54,7 @@ fn told(
     pages: &mut Pages,
     lists: &mut Lists,
     numbers: &mut Numbers,
-    lines: &mut Numbers,
+    first_lines: &mut Numbers,
 ) -> Tally {
     if s.len() == 0 {
         return t;
@@ -65,8 +65,8 @@ fn told(
     match task {
         Task::Number => number::add(t, s, pages, lists),
         Task::Read => number::read(t, s, pages, lists),
-        Task::First => compare::line_of(false, t, s, pages, lists, numbers, lines),
-        Task::Second => compare::line_of(true, t, s, pages, lists, numbers, lines),
+        Task::First => compare::line_of(false, t, s, pages, lists, numbers, first_lines),
+        Task::Second => compare::line_of(true, t, s, pages, lists, numbers, first_lines),
     }
 }
 
@@ -78,7 +78,7 @@ fn one(
     pages: &mut Pages,
     lists: &mut Lists,
     numbers: &mut Numbers,
-    lines: &mut Numbers,
+    first_lines: &mut Numbers,
 ) -> Tally {
     let mut t = t;
     if t.cut {
@@ -88,7 +88,7 @@ fn one(
     t.line = report::one_more(t.line);
     let n = trimmed(s);
     let from = start(t.line, s, n);
-    told(task, t, &s[from..n], pages, lists, numbers, lines)
+    told(task, t, &s[from..n], pages, lists, numbers, first_lines)
 }
 
 // Each line of s.
@@ -99,13 +99,13 @@ fn each(
     pages: &mut Pages,
     lists: &mut Lists,
     numbers: &mut Numbers,
-    lines: &mut Numbers,
+    first_lines: &mut Numbers,
 ) -> Tally {
     let mut t = t;
     let mut i = 0;
     while i < s.len() {
         let end = lines::end_of(s, i, b'\n');
-        t = one(task, t, &s[i..end], pages, lists, numbers, lines);
+        t = one(task, t, &s[i..end], pages, lists, numbers, first_lines);
         i = end + 1;
     }
     t
@@ -193,7 +193,7 @@ fn through(
     pages: &mut Pages,
     lists: &mut Lists,
     numbers: &mut Numbers,
-    lines: &mut Numbers,
+    first_lines: &mut Numbers,
 ) -> Tally
     requires { ⌜ 0 < length (now buf) ⌝ }
 {
@@ -210,11 +210,11 @@ fn through(
             return report::none(false);
         }
         if !x.more {
-            return each(task, t, &buf[..end], pages, lists, numbers, lines);
+            return each(task, t, &buf[..end], pages, lists, numbers, first_lines);
         }
         let n = whole(buf, end);
         t = cut_short(t, end - n == buf.len(), buf[0]);
-        t = each(task, t, &buf[..n], pages, lists, numbers, lines);
+        t = each(task, t, &buf[..n], pages, lists, numbers, first_lines);
         kept = keep(buf, n, end);
     }
     t
@@ -227,8 +227,8 @@ pub fn run(
     pages: &mut Pages,
     lists: &mut Lists,
     numbers: &mut Numbers,
-    lines: &mut Numbers,
+    first_lines: &mut Numbers,
 ) -> Tally {
     let mut buf = io::large_buffer();
-    through(fd, &mut buf, task, pages, lists, numbers, lines)
+    through(fd, &mut buf, task, pages, lists, numbers, first_lines)
 }

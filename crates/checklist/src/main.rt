@@ -1,14 +1,14 @@
 // The field checklist on the command line: numbers names, reads numbers back, compares two numberings. The README has the commands.
-mod book;
 mod compare;
+mod dictionary;
 mod input;
 mod line;
 mod number;
 mod report;
 
-use book::Lists;
-use book::Numbers;
-use book::Pages;
+use dictionary::Lists;
+use dictionary::Numbers;
+use dictionary::Pages;
 use input::Task;
 use report::Tally;
 ghost use Prim.Native.Nat.{_<_, _≤_};
@@ -33,20 +33,20 @@ fn file(
     pages: &mut Pages,
     lists: &mut Lists,
     numbers: &mut Numbers,
-    lines: &mut Numbers,
+    first_lines: &mut Numbers,
 ) -> Tally {
     let mut path = io::buffer();
     let n = os::arg(i, &mut path);
     report::remark(b"", &path[..n]);
     if line::is(&path[..n], b"-") {
-        return input::run(0, task, pages, lists, numbers, lines);
+        return input::run(0, task, pages, lists, numbers, first_lines);
     }
     let fd = os::open_read(&path[..n]);
     if fd < 0 {
         report::remark(b"cannot be opened: ", &path[..n]);
         return report::none(false);
     }
-    let t = input::run(fd, task, pages, lists, numbers, lines);
+    let t = input::run(fd, task, pages, lists, numbers, first_lines);
     libc::close(fd);
     t
 }
@@ -65,9 +65,9 @@ fn number_names(
     pages: &mut Pages,
     lists: &mut Lists,
     numbers: &mut Numbers,
-    lines: &mut Numbers,
+    first_lines: &mut Numbers,
 ) -> bool {
-    let t = file(i, Task::Number, pages, lists, numbers, lines);
+    let t = file(i, Task::Number, pages, lists, numbers, first_lines);
     if t.read {
         report::numbered(t);
     }
@@ -80,9 +80,9 @@ fn read_back(
     pages: &mut Pages,
     lists: &mut Lists,
     numbers: &mut Numbers,
-    lines: &mut Numbers,
+    first_lines: &mut Numbers,
 ) -> bool {
-    let t = file(i, Task::Read, pages, lists, numbers, lines);
+    let t = file(i, Task::Read, pages, lists, numbers, first_lines);
     t.read
 }
 
@@ -93,16 +93,16 @@ fn compare_two(
     pages: &mut Pages,
     lists: &mut Lists,
     numbers: &mut Numbers,
-    lines: &mut Numbers,
+    first_lines: &mut Numbers,
 ) -> bool {
-    compare::start(pages, lists, lines);
-    let first = file(i, Task::First, pages, lists, numbers, lines);
+    compare::start(pages, lists, first_lines);
+    let first = file(i, Task::First, pages, lists, numbers, first_lines);
     if !first.read {
         return false;
     }
-    let second = file(j, Task::Second, pages, lists, numbers, lines);
+    let second = file(j, Task::Second, pages, lists, numbers, first_lines);
     if second.read {
-        compare::end(first.refused, second, pages, lists, numbers, lines);
+        compare::end(first.refused, second, pages, lists, numbers, first_lines);
     }
     second.read
 }
@@ -125,7 +125,7 @@ fn command(
     pages: &mut Pages,
     lists: &mut Lists,
     numbers: &mut Numbers,
-    lines: &mut Numbers,
+    first_lines: &mut Numbers,
 ) -> Next
     requires { ⌜ i < 1000 ⌝ }
     ensures { λ r. ⌜ i < r .word ⌝ }
@@ -133,22 +133,22 @@ fn command(
     let mut name = io::buffer();
     let n = os::arg(i, &mut name);
     if line::is(&name[..n], b"number") && left >= 1 {
-        let done = number_names(i + 1, pages, lists, numbers, lines);
+        let done = number_names(i + 1, pages, lists, numbers, first_lines);
         return after(done, i + 2, width, count);
     }
     if line::is(&name[..n], b"read") && left >= 1 {
-        let done = read_back(i + 1, pages, lists, numbers, lines);
+        let done = read_back(i + 1, pages, lists, numbers, first_lines);
         return after(done, i + 2, width, count);
     }
     if line::is(&name[..n], b"compare") && left >= 2 {
-        let done = compare_two(i + 1, i + 2, pages, lists, numbers, lines);
-        book::open(pages, lists, width, count);
+        let done = compare_two(i + 1, i + 2, pages, lists, numbers, first_lines);
+        dictionary::open(pages, lists, width, count);
         return after(done, i + 3, width, count);
     }
     if line::is(&name[..n], b"blocks") && left >= 2 {
         let width = size(i + 1);
         let count = size(i + 2);
-        let done = book::open(pages, lists, width, count);
+        let done = dictionary::open(pages, lists, width, count);
         return after(done, i + 3, width, count);
     }
     report::usage(&name[..n]);
@@ -161,21 +161,30 @@ fn commands(
     pages: &mut Pages,
     lists: &mut Lists,
     numbers: &mut Numbers,
-    lines: &mut Numbers,
+    first_lines: &mut Numbers,
 ) {
     if n < 2 {
         report::usage(b"none");
         return;
     }
     let mut i = 1;
-    let mut width = book::WIDTH;
-    let mut count = book::COUNT;
+    let mut width = dictionary::WIDTH;
+    let mut count = dictionary::COUNT;
     while i < n {
         if i >= MOST_WORDS {
             report::too_many(i, STOP);
             return;
         }
-        let next = command(i, n - i - 1, width, count, pages, lists, numbers, lines);
+        let next = command(
+            i,
+            n - i - 1,
+            width,
+            count,
+            pages,
+            lists,
+            numbers,
+            first_lines,
+        );
         i = next.word;
         width = next.width;
         count = next.count;
@@ -183,16 +192,16 @@ fn commands(
 }
 
 fn main() {
-    let mut pages = [0u8; book::PAGE_BYTES];
-    let mut lists = [0u8; book::LIST_BYTES];
-    let mut numbers = [0u64; book::NUMBERS];
-    let mut lines = [0u64; book::NUMBERS];
-    book::open(&pages, &mut lists, book::WIDTH, book::COUNT);
+    let mut pages = [0u8; dictionary::PAGE_BYTES];
+    let mut lists = [0u8; dictionary::LIST_BYTES];
+    let mut numbers = [0u64; dictionary::NUMBERS];
+    let mut first_lines = [0u64; dictionary::NUMBERS];
+    dictionary::open(&pages, &mut lists, dictionary::WIDTH, dictionary::COUNT);
     commands(
         os::arg_count(),
         &mut pages,
         &mut lists,
         &mut numbers,
-        &mut lines,
+        &mut first_lines,
     );
 }

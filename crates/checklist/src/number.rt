@@ -1,6 +1,6 @@
 // Lines of names, which are numbered, and lines of numbers, which are read back into names.
-use crate::book::Lists;
-use crate::book::Pages;
+use crate::dictionary::Lists;
+use crate::dictionary::Pages;
 use crate::line;
 use crate::report;
 use crate::report::Tally;

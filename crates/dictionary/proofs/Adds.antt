@@ -18,7 +18,7 @@ use Rattle.model.proofs.Decide.{decided-illegal}
 use Rattle.memory.specs.Promises.{AddPost}
 use Rattle.memory.proofs.Beyond.{beyond-same}
 use Rattle.model.proofs.Legal.{text-decides}
-use Rattle.enter.specs.Added.{Added, Judged}
+use Rattle.enter.specs.Added.{AddsName, Judged}
 use Rattle.enter.proofs.Judges.{judge}
 use Rattle.dictionary.proofs.Headers.{no-state, sizes-read, not-always, one-sizes}
 
@@ -51,7 +51,7 @@ module _ (pages lists : Bytes) (s : Sizes) (e : headerOf (length pages) lists �
             rw (decided-illegal t st a why (rw q i)) (refl, S);
       }
 
-  pub add-legal : checks s a ≡ none → (r : AddAnswer) (pages′ lists′ : Bytes) → Added s (λ st b. b ≡ a) pages lists r pages′ lists′ → AddPost pages lists a r pages′ lists′
+  pub add-legal : checks s a ≡ none → (r : AddAnswer) (pages′ lists′ : Bytes) → AddsName s (λ st b. b ≡ a) pages lists r pages′ lists′ → AddPost pages lists a r pages′ lists′
   add-legal legal r pages′ lists′ h =
       record {
         unopened = λ u. absurd (not-always pages lists s e u);

@@ -105,7 +105,7 @@ pub fn find<'a>(
     // The text is checked after the search, which does not wait for it.
     let x = search::find_name(pages, lists, s, kind, first, second);
     let found = x.found;
-    if let Checked::Illegal(why) = names::check_text(kind, first, second, x.plain) {
+    if let Checked::Illegal(why) = names::check_text(kind, first, second, x.ascii) {
         return FindResult::Refused(why);
     }
     match found {

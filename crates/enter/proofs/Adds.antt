@@ -12,13 +12,14 @@ use Rattle.slices.specs.Bytes.{Bytes}
 use Rattle.refusals.specs.declared.Refusal.{Refusal}
 use Rattle.refusals.specs.declared.Refusal.the-variants.{Unopened}
 use Rattle.layout.specs.declared.Sizes.{Sizes}
-use Rattle.layout.specs.Sizes.{listBytes}
+use Rattle.layout.specs.Sizes.{listBytes, kinds}
+use Rattle.layout.specs.Header.{Lent}
 use Rattle.bytes_index.specs.Search.{Searched}
 use Rattle.bytes_index.specs.declared.Probe.the-variants.{At, Free, Bad}
 use Rattle.bytes_dictionary.specs.Written.{pagesAfter, listsAfter}
 use Rattle.meta_dv_dict.specs.declared.GlobalId.{GlobalId}
 use Rattle.meta_dv_dict.specs.Blocks.{global}
-use Rattle.meta_dv_dict.specs.Answers.{written}
+use Rattle.meta_dv_dict.specs.Answers.{blockWritten}
 use Rattle.model.specs.Names.{Name}
 use Rattle.model.specs.Answers.{AddAnswer}
 use Rattle.model.specs.Kinds.{row}
@@ -36,7 +37,7 @@ use Rattle.enter.specs.declared.Plan.{Plan}
 use Rattle.enter.specs.declared.Planned.{Planned}
 use Rattle.enter.specs.declared.Planned.the-variants as P
 use Rattle.enter.specs.Answers.{addedBy, KnownBounded, Knows, ReadyEntry, NoEntry, full, pageless, blockless, PlanFits, Plans}
-use Rattle.enter.specs.Added.{Lent, Added, HasKey}
+use Rattle.enter.specs.Added.{AddsName, HasKey}
 
 -- A fresh number is in its block.
 pub fresh-in-blocks : (s : Sizes) (g n : ℕ) → g < s .b → InBlocks s (g * 2 ^ s .w + n % 2 ^ s .w)
@@ -72,12 +73,12 @@ module _ {s : Sizes} {st : State} {pages lists : Bytes} (S : Stands s st pages l
     -- The memory after the writes of the plan.
     entered-key : (x : Plan) → PlanFits s (length key) x → Searched s (row k .mainAt) pages lists key (Free place) → ReadyEntry s st lists k (length key) x
         → (AddAnswer.fresh (x .g * 2 ^ s .w + x .n % 2 ^ s .w) ≡ addAnswer s st a)
-        × Stands s (afterAdd s st a) (pagesAfter s pages (x .spot) key) (written s (listsAfter s lists (row k .mainAt) (x .n) place (x .spot) (x .stamp) key) k (x .n) (x .g))
+        × Stands s (afterAdd s st a) (pagesAfter s pages (x .spot) key) (blockWritten s (listsAfter s lists (row k .mainAt) (x .n) place (x .spot) (x .stamp) key) k (x .n) (x .g))
     entered-key x F =
         along
         (λ j y. Searched s (row j .mainAt) pages lists y (Free place) → ReadyEntry s st lists j (length y) x
         → (AddAnswer.fresh (x .g * 2 ^ s .w + x .n % 2 ^ s .w) ≡ addAnswer s st a)
-        × Stands s (afterAdd s st a) (pagesAfter s pages (x .spot) y) (written s (listsAfter s lists (row j .mainAt) (x .n) place (x .spot) (x .stamp) y) j (x .n) (x .g)))
+        × Stands s (afterAdd s st a) (pagesAfter s pages (x .spot) y) (blockWritten s (listsAfter s lists (row j .mainAt) (x .n) place (x .spot) (x .stamp) y) j (x .n) (x .g)))
         (λ q R.
         let e = enter-one S
         (record { legal = legal; old = own-old; searched = q; room = omega (arith, R .number, F .number); planned = R .spot; spotted = F .spotted; picked = R .block }) in
@@ -85,18 +86,18 @@ module _ {s : Sizes} {st : State} {pages lists : Bytes} (S : Stands s st pages l
 
 -- ---- the promises
 
-module _ (s : Sizes) (pages lists : Bytes) (k : ℕ) (key : Bytes) (L : Lent s pages lists k) where
+module _ (s : Sizes) (pages lists : Bytes) (k : ℕ) (key : Bytes) (L : Lent s pages lists kinds k) where
   -- Nothing is written.
   same : (r : AddAnswer) → AddBounded s r
       → ((st : State) (a : Name) → Stands s st pages lists → checks s a ≡ none → HasKey k key st a → (r ≡ addAnswer s st a) × Stands s (afterAdd s st a) pages lists)
-      → Added s (HasKey k key) pages lists r pages lists
+      → AddsName s (HasKey k key) pages lists r pages lists
   same r b w = record { bounded = b; kept = λ n. (refl, refl); beyond = beyond-same s pages lists; whole = w }
 
-  pub added-foreign : Searched s (row k .mainAt) pages lists key Bad → Added s (HasKey k key) pages lists (AddAnswer.refused Unopened) pages lists
-  added-foreign q = same _ (inl refl) (λ st a S legal M. absurd (main-bad s st pages lists S k (L .kinded) key q))
+  pub added-foreign : Searched s (row k .mainAt) pages lists key Bad → AddsName s (HasKey k key) pages lists (AddAnswer.refused Unopened) pages lists
+  added-foreign q = same _ (inl refl) (λ st a S legal M. absurd (main-bad s st pages lists S k (L .known) key q))
 
   pub added-known : (i : ℕ) (r : AddResult) → Searched s (row k .mainAt) pages lists key (At i) → Knows s lists k i r
-      → Added s (HasKey k key) pages lists (addedBy r) pages lists
+      → AddsName s (HasKey k key) pages lists (addedBy r) pages lists
   added-known i r q H =
       same (addedBy r) (bound r (H .bounded))
       (λ st a S legal M. let e = found-key S a legal M i q in rw (e .0) (H .right (st .blocks) (S .blocked) (e .1), S))
@@ -112,14 +113,14 @@ module _ (s : Sizes) (pages lists : Bytes) (k : ℕ) (key : Bytes) (L : Lent s p
     same-plan len r x e H f = subst (λ (m : ℕ). Plans s lists k m x) e (subst (Plans s lists k len) f H)
 
     pub added-refused : (len : ℕ) (r : Planned) (why : Refusal) → len ≡ length key → Plans s lists k len r → r ≡ P.Refused why
-        → Added s (HasKey k key) pages lists (AddAnswer.refused why) pages lists
+        → AddsName s (HasKey k key) pages lists (AddAnswer.refused why) pages lists
     added-refused len r why e H f =
         let J = same-plan len r (P.Refused why) e H f in
         same (AddAnswer.refused why) (J .bounded) (λ st a S legal M. let d = refused-key S a legal M place why q (J .right pages st S) in rw d (refl, S))
 
     added-fresh : (x : Plan) → Plans s lists k (length key) (P.Ready x)
-        → Added s (HasKey k key) pages lists (AddAnswer.fresh (x .g * 2 ^ s .w + x .n % 2 ^ s .w)) (pagesAfter s pages (x .spot) key)
-        (written s (listsAfter s lists (row k .mainAt) (x .n) place (x .spot) (x .stamp) key) k (x .n) (x .g))
+        → AddsName s (HasKey k key) pages lists (AddAnswer.fresh (x .g * 2 ^ s .w + x .n % 2 ^ s .w)) (pagesAfter s pages (x .spot) key)
+        (blockWritten s (listsAfter s lists (row k .mainAt) (x .n) place (x .spot) (x .stamp) key) k (x .n) (x .g))
     added-fresh x H =
         let F = H .bounded in
         let B = insert-beyond s pages lists (row k .mainAt) (x .n) place (x .spot) (x .stamp) key (L .ranged) (L .pages-fit) (L .lists-fit) (main-below k) (F .number) (q .range) (F .room) in
@@ -127,7 +128,7 @@ module _ (s : Sizes) (pages lists : Bytes) (k : ℕ) (key : Bytes) (L : Lent s p
         record {
           bounded = fresh-in-blocks s (x .g) (x .n) (F .block);
           kept = λ f. absurd (f _ refl);
-          beyond = beyond-trans s _ _ _ _ _ _ B (block-beyond s _ _ k (x .n) (x .g) (L .ranged) fit (L .kinded) (F .local) (F .block));
+          beyond = beyond-trans s _ _ _ _ _ _ B (block-beyond s _ _ k (x .n) (x .g) (L .ranged) fit (L .known) (F .local) (F .block));
           whole = λ st a S legal M. entered-key S a legal M place x F q (H .right pages st S);
         }
 
@@ -135,8 +136,8 @@ module _ (s : Sizes) (pages lists : Bytes) (k : ℕ) (key : Bytes) (L : Lent s p
     pub added-calls : (d len : ℕ) (r : Planned) (x : Plan) (pages′ lists₁ lists′ : Bytes) (y : GlobalId) → len ≡ length key → Plans s lists k len r → r ≡ P.Ready x → d ≡ row k .mainAt
         → pages′ ≡ pagesAfter s pages (x .spot) key
         → lists₁ ≡ listsAfter s lists d (x .n) place (x .spot) (x .stamp) key
-        → lists′ ≡ written s lists₁ k (x .n) (x .g)
+        → lists′ ≡ blockWritten s lists₁ k (x .n) (x .g)
         → y ≡ record { 0 = x .g * 2 ^ s .w + x .n % 2 ^ s .w }
-        → Added s (HasKey k key) pages lists (addedBy (Fresh y)) pages′ lists′
+        → AddsName s (HasKey k key) pages lists (addedBy (Fresh y)) pages′ lists′
     added-calls d len r x pages′ lists₁ lists′ y e H f p u v w z =
         rw (z, w, v, u, p) (added-fresh x (same-plan len r (P.Ready x) e H f))

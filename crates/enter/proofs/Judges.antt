@@ -7,7 +7,7 @@ use Rattle.layout.specs.declared.Sizes.{Sizes}
 use Rattle.model.specs.Names.{Name}
 use Rattle.model.specs.Answers.{AddAnswer}
 use Rattle.model.specs.State.{State}
-use Rattle.enter.specs.Added.{Added, Judged}
+use Rattle.enter.specs.Added.{AddsName, Judged}
 
 module _ (s : Sizes) (M : State → Name → Type 0) (pages lists : Bytes) where
   pub judged-refused : (o : Option Refusal) (why : Refusal) → o ≡ some why → Judged o s M pages lists (AddAnswer.refused why) pages lists
@@ -15,28 +15,28 @@ module _ (s : Sizes) (M : State → Name → Type 0) (pages lists : Bytes) where
   judged-refused o why e = subst (λ x. Judged x s M pages lists (AddAnswer.refused why) pages lists) (sym e) (refl, refl, refl)
 
   module _ (o : Option Refusal) (r : AddAnswer) (pages′ lists′ : Bytes) where
-    pub judged : o ≡ none → Added s M pages lists r pages′ lists′ → Judged o s M pages lists r pages′ lists′
+    pub judged : o ≡ none → AddsName s M pages lists r pages′ lists′ → Judged o s M pages lists r pages′ lists′
     unfolding Judged
     judged e h = subst (λ x. Judged x s M pages lists r pages′ lists′) (sym e) h
 
     -- By what was judged.
     pub judge : (P : Type 0) → Judged o s M pages lists r pages′ lists′
         → ((why : Refusal) → o ≡ some why → r ≡ AddAnswer.refused why → pages′ ≡ pages → lists′ ≡ lists → P)
-        → (o ≡ none → Added s M pages lists r pages′ lists′ → P)
+        → (o ≡ none → AddsName s M pages lists r pages′ lists′ → P)
         → P
     unfolding Judged
     judge P = go o refl
       where
         go : (x : Option Refusal) → o ≡ x → Judged x s M pages lists r pages′ lists′
             → ((why : Refusal) → o ≡ some why → r ≡ AddAnswer.refused why → pages′ ≡ pages → lists′ ≡ lists → P)
-            → (o ≡ none → Added s M pages lists r pages′ lists′ → P)
+            → (o ≡ none → AddsName s M pages lists r pages′ lists′ → P)
             → P
         go (some why) e h f g = f why e (h .0) (h .1) (h .2)
         go none e h f g = g e h
 
 -- What follows of the names meant follows of the judgement.
 pub judged-map : (s : Sizes) (M N : State → Name → Type 0) (pages lists : Bytes) (o : Option Refusal) (r : AddAnswer) (pages′ lists′ : Bytes)
-    → (Added s N pages lists r pages′ lists′ → Added s M pages lists r pages′ lists′)
+    → (AddsName s N pages lists r pages′ lists′ → AddsName s M pages lists r pages′ lists′)
     → Judged o s N pages lists r pages′ lists′
     → Judged o s M pages lists r pages′ lists′
 unfolding Judged

@@ -26,13 +26,13 @@ use Rattle.meta_dv_dict.specs.Blocks.{pick}
 use Rattle.model.specs.Kinds.{row}
 use Rattle.model.specs.State.{State, stampOf}
 use Rattle.memory.specs.Stands.{Stands}
-use Rattle.memory.specs.Promises.{Between}
+use Rattle.memory.specs.Promises.{NumberWithin}
 use Rattle.memory.proofs.Probes.{main-below}
 use Rattle.memory.proofs.Counts.{main-counted, next-count, lowest-is-known, spot-known}
-use Rattle.enter.specs.declared.Reserved.{Reserved}
-use Rattle.enter.specs.declared.Reserved.the-variants as R
+use Rattle.enter.specs.declared.Chosen.{Chosen}
+use Rattle.enter.specs.declared.Chosen.the-variants as R
 use Rattle.enter.specs.declared.Planned.the-variants as P
-use Rattle.enter.specs.Answers.{spotChecked, reservedBy, Reserves, NoEntry, full, pageless, blockless, Plans}
+use Rattle.enter.specs.Answers.{spotChecked, chosenBy, Chooses, NoEntry, full, pageless, blockless, Plans}
 use Rattle.enter.proofs.Steps.{countWord}
 
 pub spot-legal : (spot : Spot) → spotChecked spot ≡ Legal → IsSpot spot
@@ -106,23 +106,23 @@ module _ (s : Sizes) (lists : Bytes) (k len : ℕ) (l : k < kinds) where
 
     module _ (spotted : IsSpot spot) where
       -- What the block's search says of a state.
-      reserved-is : (r : Reserved) → Reserves s lists k n r → {pages : Bytes} {st : State} (S : Stands s st pages lists) → r ≡ reservedBy (stampOf (st .blocks)) (pick s (st .blocks) k)
+      reserved-is : (r : Chosen) → Chooses s lists k n r → {pages : Bytes} {st : State} (S : Stands s st pages lists) → r ≡ chosenBy (stampOf (st .blocks)) (pick s (st .blocks) k)
       reserved-is r H {pages} {st} S = H .right pages st S (next-count S k ∙ sym (number-is S n (F .counted)))
 
-      pub plans-blockless : (why : Refusal) → Reserves s lists k n (R.Refused why) → Plans s lists k len (P.Refused why)
+      pub plans-blockless : (why : Refusal) → Chooses s lists k n (R.Refused why) → Plans s lists k len (P.Refused why)
       plans-blockless why H = record { bounded = bound (H .bounded); right = λ pages st S. go S (stampOf (st .blocks)) (pick s (st .blocks) k) refl (reserved-is _ H S) }
         where
-          bound : (why ≡ W.Unopened) ⊎ (why ≡ W.NoBlock) → (why ≡ W.Unopened) ⊎ Between 8 10 why
+          bound : (why ≡ W.Unopened) ⊎ (why ≡ W.NoBlock) → (why ≡ W.Unopened) ⊎ NumberWithin 8 10 why
           bound (inl q) = inl q
           bound (inr q) = inr (rw q)
 
-          go : {pages : Bytes} {st : State} (S : Stands s st pages lists) (t : ℕ) (o : Option ℕ) → pick s (st .blocks) k ≡ o → R.Refused why ≡ reservedBy t o → NoEntry s st lists k len why
+          go : {pages : Bytes} {st : State} (S : Stands s st pages lists) (t : ℕ) (o : Option ℕ) → pick s (st .blocks) k ≡ o → R.Refused why ≡ chosenBy t o → NoEntry s st lists k len why
           go {pages} {st} S t none p f =
               let q : W.NoBlock ≡ why = cc in
               subst (NoEntry s st lists k len) q (blockless (room-is S) spot (spot-is S u spot (F .lowest) (F .planned)) spotted p)
           go {pages} {st} S t (some g) p f = let z : _≡_ {A = ℕ} 0 1 = cc in absurd (omega arith)
 
-      pub plans-ready : (g t : ℕ) → len ≤ pageSize s → Reserves s lists k n (R.Block g t) → Plans s lists k len (P.Ready (record { n = n; spot = spot; g = g; stamp = t }))
+      pub plans-ready : (g t : ℕ) → len ≤ pageSize s → Chooses s lists k n (R.Block g t) → Plans s lists k len (P.Ready (record { n = n; spot = spot; g = g; stamp = t }))
       plans-ready g t h H =
           record {
             bounded = record {
@@ -138,6 +138,6 @@ module _ (s : Sizes) (lists : Bytes) (k len : ℕ) (l : k < kinds) where
                 record { number = number-is S n (F .counted); spot = spot-is S u spot (F .lowest) (F .planned); block = r .0; stamp = r .1 };
           }
         where
-          go : (x : ℕ) (o : Option ℕ) → R.Block g t ≡ reservedBy x o → (o ≡ some g) × (t ≡ x)
+          go : (x : ℕ) (o : Option ℕ) → R.Block g t ≡ chosenBy x o → (o ≡ some g) × (t ≡ x)
           go x none f = let z : _≡_ {A = ℕ} 0 1 = cc in absurd (omega arith)
           go x (some h) f = (cc, cc)

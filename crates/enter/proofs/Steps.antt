@@ -35,8 +35,8 @@ use Rattle.memory.specs.Stands.{Stands}
 use Rattle.memory.proofs.Counts.{main-counted, stamp-is}
 use Rattle.enter.specs.declared.AddResult.the-variants.{Known, Refused}
 use Rattle.enter.specs.declared.Stamp.the-variants as T
-use Rattle.enter.specs.declared.Reserved.the-variants as R
-use Rattle.enter.specs.Answers.{blockRefused, Stamps, reservedBy, Reserves, Knows}
+use Rattle.enter.specs.declared.Chosen.the-variants as R
+use Rattle.enter.specs.Answers.{blockRefused, Stamps, chosenBy, Chooses, Knows}
 
 -- ---- the number of a name that is there
 
@@ -73,8 +73,8 @@ pub counted-main : (s : Sizes) (lists : Bytes) (k d : ℕ) (r x : Counted) → d
 counted-main s lists k d r x q e f = ap (λ (j : ℕ). countIn s (wordAt lists (countAt j))) (sym q) ∙ sym e ∙ f
 
 -- The sum so far and one count more.
-pub sum-more : (e t k n : ℕ) → t ≤ k * e → n ≤ e → t + n ≤ (k + 1) * e
-sum-more e t k n l m = let q : (k + 1) * e ≡ k * e + e = rw add-one (suc-mul k e) in omega arith
+pub sum-bound : (e t k n : ℕ) → t ≤ k * e → n ≤ e → t + n ≤ (k + 1) * e
+sum-bound e t k n l m = let q : (k + 1) * e ≡ k * e + e = rw add-one (suc-mul k e) in omega arith
 
 pub sum-few : (e t k : ℕ) → t ≤ k * e → k ≤ 4 → t ≤ 4 * e
 sum-few e t k l m = let q : k * e ≤ 4 * e = mul-le-mul-right e m in omega arith
@@ -109,36 +109,36 @@ stamps-sum s lists t l e =
 
 -- No block was answered: the rule picks none, or the memory is no dictionary's.
 pub reserves-none : (s : Sizes) (lists : Bytes) (k n : ℕ) (r : Allocated) → Allocates s lists k n r → (tagOf the-type r ≡ 1) ⊎ (tagOf the-type r ≡ 2)
-    → Reserves s lists k n (blockRefused r)
+    → Chooses s lists k n (blockRefused r)
 reserves-none s lists k n (A.Block g) G (inl e) = absurd (omega arith)
 reserves-none s lists k n (A.Block g) G (inr e) = absurd (omega arith)
 reserves-none s lists k n A.NoBlock G e =
     record { bounded = inr refl; right = λ pages st S q. go (stampOf (st .blocks)) (pick s (st .blocks) k) (G .right (st .blocks) (S .blocked) q) }
   where
-    go : (t : ℕ) (o : Option ℕ) → A.NoBlock ≡ allocated o → R.Refused NoBlock ≡ reservedBy t o
+    go : (t : ℕ) (o : Option ℕ) → A.NoBlock ≡ allocated o → R.Refused NoBlock ≡ chosenBy t o
     go t none f = refl
     go t (some g) f = let z : _≡_ {A = ℕ} 0 1 = cc in absurd (omega arith)
 reserves-none s lists k n A.Bad G e =
     record { bounded = inl refl; right = λ pages st S q. go (stampOf (st .blocks)) (pick s (st .blocks) k) (G .right (st .blocks) (S .blocked) q) }
   where
-    go : (t : ℕ) (o : Option ℕ) → A.Bad ≡ allocated o → R.Refused Unopened ≡ reservedBy t o
+    go : (t : ℕ) (o : Option ℕ) → A.Bad ≡ allocated o → R.Refused Unopened ≡ chosenBy t o
     go t none f = let z : _≡_ {A = ℕ} 0 1 = cc in absurd (omega arith)
     go t (some g) f = let z : _≡_ {A = ℕ} 0 1 = cc in absurd (omega arith)
 
-pub reserves-unstamped : (s : Sizes) (lists : Bytes) (k n : ℕ) → Stamps s lists T.Bad → Reserves s lists k n (R.Refused Unopened)
+pub reserves-unstamped : (s : Sizes) (lists : Bytes) (k n : ℕ) → Stamps s lists T.Bad → Chooses s lists k n (R.Refused Unopened)
 reserves-unstamped s lists k n G =
     record {
       bounded = inl refl;
       right = λ pages st S q. let f : T.Bad ≡ T.At (stampOf (st .blocks)) = G .right pages st S in let z : _≡_ {A = ℕ} 0 1 = cc in absurd (omega arith);
     }
 
-pub reserves-block : (s : Sizes) (lists : Bytes) (k n g t : ℕ) → Allocates s lists k n (A.Block g) → Stamps s lists (T.At t) → Reserves s lists k n (R.Block g t)
+pub reserves-block : (s : Sizes) (lists : Bytes) (k n g t : ℕ) → Allocates s lists k n (A.Block g) → Stamps s lists (T.At t) → Chooses s lists k n (R.Block g t)
 reserves-block s lists k n g t G H =
     record {
       bounded = (G .range .0, G .range .1, H .range);
       right = λ pages st S q. go (stampOf (st .blocks)) (pick s (st .blocks) k) (H .right pages st S) (G .right (st .blocks) (S .blocked) q);
     }
   where
-    go : (u : ℕ) (o : Option ℕ) → T.At t ≡ T.At u → A.Block g ≡ allocated o → R.Block g t ≡ reservedBy u o
+    go : (u : ℕ) (o : Option ℕ) → T.At t ≡ T.At u → A.Block g ≡ allocated o → R.Block g t ≡ chosenBy u o
     go u none f e = let z : _≡_ {A = ℕ} 0 1 = cc in absurd (omega arith)
     go u (some h) f e = cc

@@ -11,11 +11,11 @@ use Rattle.model.specs.Answers.{AddAnswer}
 use Rattle.model.specs.State.{State}
 use Rattle.model.specs.Steps.{checks, newHead, keyOf, addAnswer, afterAdd}
 use Rattle.memory.specs.Stands.{Stands}
-pub use Rattle.names.specs.Given.{Lent, IsPair}
+pub use Rattle.names.specs.Given.{IsPair}
 use Rattle.memory.specs.Promises.{SameBeyond, AddBounded}
 
 -- `Means st a`: at the state st the arguments stand for the name a.
-pub record Added (s : Sizes) (Means : State → Name → Type 0) (pages lists : Bytes) (r : AddAnswer) (pages′ lists′ : Bytes) : Type 0 where
+pub record AddsName (s : Sizes) (Means : State → Name → Type 0) (pages lists : Bytes) (r : AddAnswer) (pages′ lists′ : Bytes) : Type 0 where
   pub bounded : AddBounded s r
   pub kept : ((n : ℕ) → ¬ (r ≡ AddAnswer.fresh n)) → (pages′ ≡ pages) × (lists′ ≡ lists)
   pub beyond : SameBeyond s pages lists pages′ lists′
@@ -24,7 +24,7 @@ pub record Added (s : Sizes) (Means : State → Name → Type 0) (pages lists : 
 -- Refused where a refusal is given, with nothing written; else added.
 unfoldable pub Judged : Option Refusal → Sizes → (State → Name → Type 0) → Bytes → Bytes → AddAnswer → Bytes → Bytes → Type 0
 Judged (some why) s Means pages lists r pages′ lists′ = (r ≡ AddAnswer.refused why) × (pages′ ≡ pages) × (lists′ ≡ lists)
-Judged none s Means pages lists r pages′ lists′ = Added s Means pages lists r pages′ lists′
+Judged none s Means pages lists r pages′ lists′ = AddsName s Means pages lists r pages′ lists′
 
 -- A name of the kind k whose head is stored, or that has none, with this key.
 pub record HasKey (k : ℕ) (key : Bytes) (st : State) (a : Name) : Type 0 where

@@ -24,13 +24,13 @@ use Rattle.model.specs.Answers.{AddAnswer}
 use Rattle.model.specs.Kinds.{row}
 use Rattle.model.specs.State.{State, stampOf}
 use Rattle.memory.specs.Stands.{Stands}
-use Rattle.memory.specs.Promises.{Between, InBlocks}
+use Rattle.memory.specs.Promises.{NumberWithin, InBlocks}
 use Rattle.enter.specs.declared.AddResult.{AddResult}
 use Rattle.enter.specs.declared.AddResult.the-variants.{Fresh, Known, Refused}
 use Rattle.enter.specs.declared.Stamp.{Stamp}
 use Rattle.enter.specs.declared.Stamp.the-variants as T
-use Rattle.enter.specs.declared.Reserved.{Reserved}
-use Rattle.enter.specs.declared.Reserved.the-variants as R
+use Rattle.enter.specs.declared.Chosen.{Chosen}
+use Rattle.enter.specs.declared.Chosen.the-variants as R
 use Rattle.enter.specs.declared.Plan.{Plan}
 use Rattle.enter.specs.declared.Planned.{Planned}
 use Rattle.enter.specs.declared.Planned.the-variants as P
@@ -49,7 +49,7 @@ spotChecked NoPage = Illegal W.NoPage
 spotChecked Bad = Illegal W.Unopened
 
 -- The refusal of a block that is none.
-abbrev pub blockRefused : Allocated → Reserved
+abbrev pub blockRefused : Allocated → Chosen
 blockRefused (A.Block g) = R.Refused W.Unopened
 blockRefused A.NoBlock = R.Refused W.NoBlock
 blockRefused A.Bad = R.Refused W.Unopened
@@ -66,17 +66,17 @@ pub record Stamps (s : Sizes) (lists : Bytes) (r : Stamp) : Type 0 where
 
 -- ---- the block and the stamp of the kind k's name number n
 
-abbrev pub reservedBy : ℕ → Option ℕ → Reserved
-reservedBy stamp none = R.Refused W.NoBlock
-reservedBy stamp (some g) = R.Block g stamp
+abbrev pub chosenBy : ℕ → Option ℕ → Chosen
+chosenBy stamp none = R.Refused W.NoBlock
+chosenBy stamp (some g) = R.Block g stamp
 
-abbrev pub ReservedBounded : Sizes → ℕ → Reserved → Type 0
-ReservedBounded s n (R.Block g stamp) = (g < s .b) × (n / 2 ^ s .w < s .b) × (stamp ≤ 4 * s .e)
-ReservedBounded s n (R.Refused why) = (why ≡ W.Unopened) ⊎ (why ≡ W.NoBlock)
+abbrev pub ChosenBounded : Sizes → ℕ → Chosen → Type 0
+ChosenBounded s n (R.Block g stamp) = (g < s .b) × (n / 2 ^ s .w < s .b) × (stamp ≤ 4 * s .e)
+ChosenBounded s n (R.Refused why) = (why ≡ W.Unopened) ⊎ (why ≡ W.NoBlock)
 
-pub record Reserves (s : Sizes) (lists : Bytes) (k n : ℕ) (r : Reserved) : Type 0 where
-  pub bounded : ReservedBounded s n r
-  pub right : (pages : Bytes) (st : State) → Stands s st pages lists → st .blocks .next k ≡ n → r ≡ reservedBy (stampOf (st .blocks)) (pick s (st .blocks) k)
+pub record Chooses (s : Sizes) (lists : Bytes) (k n : ℕ) (r : Chosen) : Type 0 where
+  pub bounded : ChosenBounded s n r
+  pub right : (pages : Bytes) (st : State) → Stands s st pages lists → st .blocks .next k ≡ n → r ≡ chosenBy (stampOf (st .blocks)) (pick s (st .blocks) k)
 
 -- ---- the plan of one entry more of the kind k
 
@@ -109,7 +109,7 @@ pub record PlanFits (s : Sizes) (len : ℕ) (x : Plan) : Type 0 where
 
 abbrev pub PlanBounded : Sizes → ℕ → Planned → Type 0
 PlanBounded s len (P.Ready x) = PlanFits s len x
-PlanBounded s len (P.Refused why) = (why ≡ W.Unopened) ⊎ Between 8 10 why
+PlanBounded s len (P.Refused why) = (why ≡ W.Unopened) ⊎ NumberWithin 8 10 why
 
 pub record Plans (s : Sizes) (lists : Bytes) (k len : ℕ) (r : Planned) : Type 0 where
   pub bounded : PlanBounded s len r

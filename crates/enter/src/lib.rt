@@ -3,7 +3,7 @@ use bytes_buffer::Lowest;
 use bytes_buffer::Spot;
 use bytes_dictionary::Counted;
 use bytes_dictionary::EntryId;
-use bytes_dictionary::Fresh;
+use bytes_dictionary::NewEntry;
 use bytes_index::Probe;
 use layout::KINDS;
 use layout::Sizes;
@@ -21,13 +21,14 @@ ghost use lib.ListN.{length};
 ghost use Rattle.fnv.specs.Fnv.{fnvOf};
 ghost use Rattle.utf8.specs.Text.{isText};
 ghost use Rattle.layout.specs.Sizes.{InRange, kinds, pageSize, listBytes};
-ghost use Rattle.bytes_index.specs.Search.{keyOf, Searched};
+ghost use Rattle.layout.specs.Header.{Lent};
+ghost use Rattle.bytes_index.specs.Search.{keyBytes, Searched};
 ghost use Rattle.bytes_index.specs.declared.Probe.the-variants.{Free};
 ghost use Rattle.model.specs.Names.{entered};
 ghost use Rattle.model.specs.Kinds.{row};
 ghost use Rattle.model.specs.Steps.{textRefusal};
-ghost use Rattle.enter.specs.Answers.{addedBy, spotChecked, blockRefused, Stamps, Knows, Reserves, Plans};
-ghost use Rattle.enter.specs.Added.{Lent, Added, Judged, HasKey};
+ghost use Rattle.enter.specs.Answers.{addedBy, spotChecked, blockRefused, Stamps, Knows, Chooses, Plans};
+ghost use Rattle.enter.specs.Added.{AddsName, Judged, HasKey};
 
 pub enum AddResult {
     Fresh(GlobalId),
@@ -72,35 +73,35 @@ pub fn check_spot(spot: Spot) -> Checked
 }
 
 // Where the next name of a kind goes: its block, and its stamp.
-pub enum Reserved {
+pub enum Chosen {
     Block { g: usize, stamp: usize },
     Refused(Refusal),
 }
 
 // The refusal of a block that is none.
-fn refuse_block(allocated: Allocated) -> Reserved
+fn refuse_block(allocated: Allocated) -> Chosen
     ensures { λ r. ⌜ r ≡ blockRefused allocated ⌝ }
 {
     match allocated {
-        Allocated::Block(_) => Reserved::Refused(Refusal::Unopened),
-        Allocated::NoBlock => Reserved::Refused(Refusal::NoBlock),
-        Allocated::Bad => Reserved::Refused(Refusal::Unopened),
+        Allocated::Block(_) => Chosen::Refused(Refusal::Unopened),
+        Allocated::NoBlock => Chosen::Refused(Refusal::NoBlock),
+        Allocated::Bad => Chosen::Refused(Refusal::Unopened),
     }
 }
 
 // The block and the stamp of the kind k's name number n.
-pub fn reserve(lists: &[u8], s: Sizes, k: usize, n: usize) -> Reserved
+pub fn choose_block(lists: &[u8], s: Sizes, k: usize, n: usize) -> Chosen
     requires { ⌜ InRange s × (listBytes s ≤ length (now lists)) × (k < kinds) ⌝ }
-    ensures { λ r. ⌜ Reserves s (now (lists .entry)) k n r ⌝ }
+    ensures { λ r. ⌜ Chooses s (now (lists .entry)) k n r ⌝ }
 {
     let allocated = meta_dv_dict::allocate_block(lists, s, k, LocalId(n));
     let Allocated::Block(g) = allocated else {
         return refuse_block(allocated);
     };
     let Stamp::At(stamp) = next_stamp(lists, s) else {
-        return Reserved::Refused(Refusal::Unopened);
+        return Chosen::Refused(Refusal::Unopened);
     };
-    Reserved::Block { g, stamp }
+    Chosen::Block { g, stamp }
 }
 
 // A name that is there has the number of its entry.
@@ -147,9 +148,9 @@ fn plan_entry(lists: &[u8], s: Sizes, k: usize, len: usize) -> Planned
     if let Checked::Illegal(why) = check_spot(spot) {
         return Planned::Refused(why);
     }
-    match reserve(lists, s, k, n) {
-        Reserved::Block { g, stamp } => Planned::Ready(Plan { n, spot, g, stamp }),
-        Reserved::Refused(why) => Planned::Refused(why),
+    match choose_block(lists, s, k, n) {
+        Chosen::Block { g, stamp } => Planned::Ready(Plan { n, spot, g, stamp }),
+        Chosen::Refused(why) => Planned::Refused(why),
     }
 }
 
@@ -165,11 +166,11 @@ fn add_entry(
     front: &[u8],
     rest: &[u8],
 ) -> AddResult
-    requires { ⌜ Lent s (now pages) (now lists) k ⌝ }
-    requires { ⌜ Searched s (row k .mainAt) (now pages) (now lists) (keyOf mode (now front) (now rest)) (Free place) ⌝ }
-    requires { ⌜ length (keyOf mode (now front) (now rest)) ≤ pageSize s ⌝ }
-    requires { ⌜ h ≡ fnvOf (keyOf mode (now front) (now rest)) ⌝ }
-    ensures { λ r. ⌜ Added s (HasKey k (keyOf mode (now (front .entry)) (now (rest .entry)))) (now (pages .entry)) (now (lists .entry)) (addedBy r) (now (pages .exit)) (now (lists .exit)) ⌝ }
+    requires { ⌜ Lent s (now pages) (now lists) kinds k ⌝ }
+    requires { ⌜ Searched s (row k .mainAt) (now pages) (now lists) (keyBytes mode (now front) (now rest)) (Free place) ⌝ }
+    requires { ⌜ length (keyBytes mode (now front) (now rest)) ≤ pageSize s ⌝ }
+    requires { ⌜ h ≡ fnvOf (keyBytes mode (now front) (now rest)) ⌝ }
+    ensures { λ r. ⌜ AddsName s (HasKey k (keyBytes mode (now (front .entry)) (now (rest .entry)))) (now (pages .entry)) (now (lists .entry)) (addedBy r) (now (pages .exit)) (now (lists .exit)) ⌝ }
 {
     let len = parts::measure(mode, front) + rest.len();
     match plan_entry(lists, s, k, len) {
@@ -177,7 +178,7 @@ fn add_entry(
             let n = x.n;
             let g = x.g;
             let spot = x.spot;
-            let fresh = Fresh {
+            let fresh = NewEntry {
                 d: names::main_dictionary(k),
                 n,
                 place,
@@ -193,7 +194,7 @@ fn add_entry(
 }
 
 // Adds a name of the kind k by its key, whose hash is h, or finds it there (Nemo's add_str). Its text is checked after the search, which does
-// not wait for it; or it is known to be plain.
+// not wait for it; or it is known to be ASCII.
 pub fn add_str(
     pages: &mut [u8],
     lists: &mut [u8],
@@ -201,21 +202,21 @@ pub fn add_str(
     k: usize,
     first: &[u8],
     second: &[u8],
-    plain: bool,
+    ascii: bool,
     h: u32,
     mode: Mode,
     front: &[u8],
     rest: &[u8],
 ) -> AddResult
-    requires { ⌜ Lent s (now pages) (now lists) k ⌝ }
-    requires { ⌜ length (keyOf mode (now front) (now rest)) ≤ pageSize s ⌝ }
-    requires { ⌜ h ≡ fnvOf (keyOf mode (now front) (now rest)) ⌝ }
-    requires { ⌜ (plain ≡ true → (isText (now first) ≡ true) × (isText (now second) ≡ true)) ⌝ }
-    ensures { λ r. ⌜ Judged (textRefusal (entered k (now (first .entry)) (now (second .entry)))) s (HasKey k (keyOf mode (now (front .entry)) (now (rest .entry)))) (now (pages .entry)) (now (lists .entry)) (addedBy r) (now (pages .exit)) (now (lists .exit)) ⌝ }
+    requires { ⌜ Lent s (now pages) (now lists) kinds k ⌝ }
+    requires { ⌜ length (keyBytes mode (now front) (now rest)) ≤ pageSize s ⌝ }
+    requires { ⌜ h ≡ fnvOf (keyBytes mode (now front) (now rest)) ⌝ }
+    requires { ⌜ (ascii ≡ true → (isText (now first) ≡ true) × (isText (now second) ≡ true)) ⌝ }
+    ensures { λ r. ⌜ Judged (textRefusal (entered k (now (first .entry)) (now (second .entry)))) s (HasKey k (keyBytes mode (now (front .entry)) (now (rest .entry)))) (now (pages .entry)) (now (lists .entry)) (addedBy r) (now (pages .exit)) (now (lists .exit)) ⌝ }
 {
     let d = names::main_dictionary(k);
     let found = bytes_index::bytes_to_id(pages, lists, s, d, h, mode, front, rest);
-    if let Checked::Illegal(why) = names::check_text(k, first, second, plain) {
+    if let Checked::Illegal(why) = names::check_text(k, first, second, ascii) {
         return AddResult::Refused(why);
     }
     match found {

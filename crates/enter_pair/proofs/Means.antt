@@ -12,13 +12,13 @@ use Rattle.model.specs.Kinds.{row}
 use Rattle.model.specs.State.{State}
 use Rattle.model.specs.Steps.{checks}
 use Rattle.memory.specs.Stands.{Stands}
-use Rattle.enter.specs.Added.{Added, Judged, HasKey}
+use Rattle.enter.specs.Added.{AddsName, Judged, HasKey}
 use Rattle.enter.proofs.Judges.{judged-map}
 
 module _ (s : Sizes) (pages lists : Bytes) (r : AddAnswer) (pages′ lists′ : Bytes) where
   pub same-names : (M N : State → Name → Type 0) → ((st : State) (a : Name) → Stands s st pages lists → checks s a ≡ none → M st a → N st a)
-      → Added s N pages lists r pages′ lists′
-      → Added s M pages lists r pages′ lists′
+      → AddsName s N pages lists r pages′ lists′
+      → AddsName s M pages lists r pages′ lists′
   same-names M N f h =
       record { bounded = h .bounded; kept = h .kept; beyond = h .beyond; whole = λ st a S legal m. h .whole st a S legal (f st a S legal m) }
 

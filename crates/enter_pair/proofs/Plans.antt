@@ -26,12 +26,12 @@ use Rattle.meta_dv_dict.specs.Blocks.{pick}
 use Rattle.model.specs.Kinds.{row}
 use Rattle.model.specs.State.{State, stampOf}
 use Rattle.memory.specs.Stands.{Stands}
-use Rattle.memory.specs.Promises.{Between}
+use Rattle.memory.specs.Promises.{NumberWithin}
 use Rattle.memory.proofs.Probes.{main-below, head-below}
 use Rattle.memory.proofs.Counts.{main-counted, next-count, lowest-is-known, spot-known}
-use Rattle.enter.specs.declared.Reserved.{Reserved}
-use Rattle.enter.specs.declared.Reserved.the-variants as R
-use Rattle.enter.specs.Answers.{spotChecked, reservedBy, Reserves}
+use Rattle.enter.specs.declared.Chosen.{Chosen}
+use Rattle.enter.specs.declared.Chosen.the-variants as R
+use Rattle.enter.specs.Answers.{spotChecked, chosenBy, Chooses}
 use Rattle.enter.proofs.Steps.{countWord}
 use Rattle.enter_pair.specs.declared.PairPlanned.the-variants as P
 use Rattle.enter_pair.specs.Plans.{headSpot, pairSpot, NoPair, full, pageless, blockless, PlansPair}
@@ -131,19 +131,19 @@ module _ (s : Sizes) (lists : Bytes) (k h size len : ℕ) (l : k < kinds) where
           pair-spotted : {pages : Bytes} {st : State} → Stands s st pages lists → IsSpot (pairSpot s st lists k size len)
           pair-spotted S = subst IsSpot (sym (pair-is S)) spotted
 
-          reserved-is : (r : Reserved) → Reserves s lists k n r → {pages : Bytes} {st : State} (S : Stands s st pages lists)
-              → r ≡ reservedBy (stampOf (st .blocks)) (pick s (st .blocks) k)
+          reserved-is : (r : Chosen) → Chooses s lists k n r → {pages : Bytes} {st : State} (S : Stands s st pages lists)
+              → r ≡ chosenBy (stampOf (st .blocks)) (pick s (st .blocks) k)
           reserved-is r H {pages} {st} S = H .right pages st S (next-count S k ∙ sym (number-is S n (F .counted)))
 
-          pub plans-blockless : (why : Refusal) → Reserves s lists k n (R.Refused why) → PlansPair s lists k h size len (P.Refused why)
+          pub plans-blockless : (why : Refusal) → Chooses s lists k n (R.Refused why) → PlansPair s lists k h size len (P.Refused why)
           plans-blockless why H =
               record { bounded = bound (H .bounded); right = λ pages st S. go S (stampOf (st .blocks)) (pick s (st .blocks) k) refl (reserved-is _ H S) }
             where
-              bound : (why ≡ W.Unopened) ⊎ (why ≡ W.NoBlock) → (why ≡ W.Unopened) ⊎ Between 8 10 why
+              bound : (why ≡ W.Unopened) ⊎ (why ≡ W.NoBlock) → (why ≡ W.Unopened) ⊎ NumberWithin 8 10 why
               bound (inl q) = inl q
               bound (inr q) = inr (rw q)
 
-              go : {pages : Bytes} {st : State} (S : Stands s st pages lists) (t : ℕ) (o : Option ℕ) → pick s (st .blocks) k ≡ o → R.Refused why ≡ reservedBy t o
+              go : {pages : Bytes} {st : State} (S : Stands s st pages lists) (t : ℕ) (o : Option ℕ) → pick s (st .blocks) k ≡ o → R.Refused why ≡ chosenBy t o
                   → NoPair s st lists k h size len why
               go {pages} {st} S t none p f =
                   let q : W.NoBlock ≡ why = cc in
@@ -151,7 +151,7 @@ module _ (s : Sizes) (lists : Bytes) (k h size len : ℕ) (l : k < kinds) where
               go {pages} {st} S t (some g) p f = let z : _≡_ {A = ℕ} 0 1 = cc in absurd (omega arith)
 
           pub plans-ready : (g t : ℕ) → size ≤ pageSize s → len ≤ pageSize s → InPages s u size hspot → InPages s (untakenAfter u hspot) len spot
-              → Reserves s lists k n (R.Block g t)
+              → Chooses s lists k n (R.Block g t)
               → PlansPair s lists k h size len (P.Ready (record { n = n; head = hspot; pair = spot; g = g; stamp = t }))
           plans-ready g t hshort short hinside inside H =
               record {
@@ -171,6 +171,6 @@ module _ (s : Sizes) (lists : Bytes) (k h size len : ℕ) (l : k < kinds) where
                     record { number = number-is S n (F .counted); head = head-is S; pair = pair-is S; block = r .0; stamp = r .1 };
               }
             where
-              go : (x : ℕ) (o : Option ℕ) → R.Block g t ≡ reservedBy x o → (o ≡ some g) × (t ≡ x)
+              go : (x : ℕ) (o : Option ℕ) → R.Block g t ≡ chosenBy x o → (o ≡ some g) × (t ≡ x)
               go x none f = let z : _≡_ {A = ℕ} 0 1 = cc in absurd (omega arith)
               go x (some h) f = (cc, cc)

@@ -15,11 +15,11 @@ use Rattle.bytes_buffer.specs.declared.Spot.the-variants.{NoPage}
 use Rattle.bytes_buffer.specs.Spots.{spotIn, untakenAfter}
 use Rattle.bytes_dictionary.specs.Written.{HasRoom, IsSpot, pagesAfter, listsAfter}
 use Rattle.meta_dv_dict.specs.Blocks.{pick}
-use Rattle.meta_dv_dict.specs.Answers.{written}
+use Rattle.meta_dv_dict.specs.Answers.{blockWritten}
 use Rattle.model.specs.Kinds.{row}
 use Rattle.model.specs.State.{State, stampOf}
 use Rattle.memory.specs.Stands.{Stands}
-use Rattle.memory.specs.Promises.{Between}
+use Rattle.memory.specs.Promises.{NumberWithin}
 use Rattle.enter_pair.specs.declared.PairPlan.{PairPlan}
 use Rattle.enter_pair.specs.declared.PairPlanned.{PairPlanned}
 use Rattle.enter_pair.specs.declared.PairPlanned.the-variants.{Ready, Refused}
@@ -67,7 +67,7 @@ pub record PairPlanFits (s : Sizes) (f size len : ℕ) (x : PairPlan) : Type 0 w
 
 abbrev pub PairPlanBounded : Sizes → ℕ → ℕ → ℕ → PairPlanned → Type 0
 PairPlanBounded s f size len (Ready x) = PairPlanFits s f size len x
-PairPlanBounded s f size len (Refused why) = (why ≡ W.Unopened) ⊎ Between 8 10 why
+PairPlanBounded s f size len (Refused why) = (why ≡ W.Unopened) ⊎ NumberWithin 8 10 why
 
 pub record PlansPair (s : Sizes) (lists : Bytes) (k f size len : ℕ) (r : PairPlanned) : Type 0 where
   pub bounded : PairPlanBounded s f size len r
@@ -80,7 +80,7 @@ pairPages s pages x head key = pagesAfter s (pagesAfter s pages (x .head) head) 
 
 unfoldable pub pairLists : Sizes → Bytes → ℕ → ℕ → ℕ → ℕ → PairPlan → Bytes → Bytes → Bytes
 pairLists s lists k f headPlace place x head key =
-    written s
+    blockWritten s
     (listsAfter s (listsAfter s lists (row k .headsAt) f headPlace (x .head) (x .stamp) head) (row k .mainAt) (x .n) place (x .pair) (x .stamp) key)
     k
     (x .n)

@@ -2,10 +2,10 @@
 use bytes_buffer::Lowest;
 use bytes_buffer::Spot;
 use bytes_dictionary::Counted;
-use bytes_dictionary::Fresh;
+use bytes_dictionary::NewEntry;
 use bytes_index::Probe;
 use enter::AddResult;
-use enter::Reserved;
+use enter::Chosen;
 use layout::Sizes;
 use meta_dv_dict::LocalId;
 use names::PLAIN;
@@ -23,6 +23,7 @@ ghost use lib.ListN.{length};
 ghost use Rattle.fnv.specs.Fnv.{fnvOf, bitsFrom};
 ghost use Rattle.utf8.specs.Text.{isText};
 ghost use Rattle.layout.specs.Sizes.{InRange, limit, kinds, pageSize, listBytes};
+ghost use Rattle.layout.specs.Header.{Lent};
 ghost use Rattle.ranked_pair_dictionary.specs.FrequentId.{fid};
 ghost use Rattle.bytes_index.specs.Search.{Searched};
 ghost use Rattle.bytes_index.specs.declared.Probe.the-variants.{Free};
@@ -31,7 +32,7 @@ ghost use Rattle.model.specs.Answers.{AddAnswer};
 ghost use Rattle.model.specs.Kinds.{row};
 ghost use Rattle.model.specs.Steps.{shapeRefusal, textRefusal};
 ghost use Rattle.enter.specs.Answers.{addedBy};
-ghost use Rattle.enter.specs.Added.{Lent, Added, Judged, HasKey, HasPair};
+ghost use Rattle.enter.specs.Added.{AddsName, Judged, HasKey, HasPair};
 ghost use Rattle.enter_pair.specs.Plans.{PlansPair, PairPlanFits, pairPages, pairLists};
 
 // What an add of a head and its pair writes: the pair's number, both spots, the block and the stamp.
@@ -72,15 +73,15 @@ fn plan_pair(lists: &[u8], s: Sizes, k: usize, f: usize, size: usize, len: usize
     if let Checked::Illegal(why) = enter::check_spot(pair) {
         return PairPlanned::Refused(why);
     }
-    match enter::reserve(lists, s, k, n) {
-        Reserved::Block { g, stamp } => PairPlanned::Ready(PairPlan {
+    match enter::choose_block(lists, s, k, n) {
+        Chosen::Block { g, stamp } => PairPlanned::Ready(PairPlan {
             n,
             head,
             pair,
             g,
             stamp,
         }),
-        Reserved::Refused(why) => PairPlanned::Refused(why),
+        Chosen::Refused(why) => PairPlanned::Refused(why),
     }
 }
 
@@ -100,7 +101,7 @@ fn commit_pair(
     lead: &[u8],
     rest: &[u8],
 ) -> AddResult
-    requires { ⌜ Lent s (now pages) (now lists) k × (row k .paired ≡ true) × (headplace < 2 * s .e) × (place < 2 * s .e) ⌝ }
+    requires { ⌜ Lent s (now pages) (now lists) kinds k × (row k .paired ≡ true) × (headplace < 2 * s .e) × (place < 2 * s .e) ⌝ }
     requires { ⌜ PairPlanFits s f (length (now head)) (length (now lead ++ now rest)) x ⌝ }
     requires { ⌜ (headhash ≡ fnvOf (now head)) × (h ≡ fnvOf (now lead ++ now rest)) ⌝ }
     ensures answer { λ r. ⌜ addedBy r ≡ AddAnswer.fresh (x .g * 2 ^ s .w + x .n % 2 ^ s .w) ⌝ }
@@ -113,7 +114,7 @@ fn commit_pair(
     let head_spot = x.head;
     let spot = x.pair;
     let none = &head[..0];
-    let fresh_head = Fresh {
+    let fresh_head = NewEntry {
         d: names::head_dictionary(k),
         n: f,
         place: headplace,
@@ -130,7 +131,7 @@ fn commit_pair(
         none,
         head,
     );
-    let fresh = Fresh {
+    let fresh = NewEntry {
         d: names::main_dictionary(k),
         n,
         place,
@@ -152,9 +153,9 @@ fn add_both(
     head: &[u8],
     rest: &[u8],
 ) -> AddResult
-    requires { ⌜ Lent s (now pages) (now lists) k × (row k .paired ≡ true) × (length (now head) + length (now rest) ≤ limit s) ⌝ }
+    requires { ⌜ Lent s (now pages) (now lists) kinds k × (row k .paired ≡ true) × (length (now head) + length (now rest) ≤ limit s) ⌝ }
     requires { ⌜ Searched s (row k .headsAt) (now pages) (now lists) (now head) (Free headplace) ⌝ }
-    ensures { λ r. ⌜ Added s (HasPair k (now (head .entry)) (now (rest .entry))) (now (pages .entry)) (now (lists .entry)) (addedBy r) (now (pages .exit)) (now (lists .exit)) ⌝ }
+    ensures { λ r. ⌜ AddsName s (HasPair k (now (head .entry)) (now (rest .entry))) (now (pages .entry)) (now (lists .entry)) (addedBy r) (now (pages .exit)) (now (lists .exit)) ⌝ }
 {
     let Counted::Entries(f) = bytes_dictionary::count(lists, s, names::head_dictionary(k)) else {
         return AddResult::Refused(Refusal::Unopened);
@@ -201,7 +202,7 @@ fn add_behind(
     f: usize,
     rest: &[u8],
 ) -> AddResult
-    requires { ⌜ Lent s (now pages) (now lists) k × (f < s .e) × (length (now rest) ≤ limit s) ⌝ }
+    requires { ⌜ Lent s (now pages) (now lists) kinds k × (f < s .e) × (length (now rest) ≤ limit s) ⌝ }
     requires { ⌜ (bitsFrom bits (now rest) < 128 → (isText (now first) ≡ true) × (isText (now second) ≡ true)) ⌝ }
     ensures { λ r. ⌜ Judged (textRefusal (entered k (now (first .entry)) (now (second .entry)))) s (HasKey k (fid f ++ now (rest .entry))) (now (pages .entry)) (now (lists .entry)) (addedBy r) (now (pages .exit)) (now (lists .exit)) ⌝ }
 {
@@ -210,7 +211,7 @@ fn add_behind(
         return AddResult::Refused(Refusal::Unopened);
     };
     let y = fnv::scan(fnv::fnv(&lead[..m]), bits, rest);
-    let plain = y.bits < 0x80;
+    let ascii = y.bits < 0x80;
     let front = &lead[..m];
     enter::add_str(
         pages,
@@ -219,7 +220,7 @@ fn add_behind(
         k,
         first,
         second,
-        plain,
+        ascii,
         y.h,
         Mode::Raw,
         front,
@@ -239,7 +240,7 @@ fn add_pair(
     head: &[u8],
     rest: &[u8],
 ) -> AddResult
-    requires { ⌜ Lent s (now pages) (now lists) k × (row k .paired ≡ true) × (length (now head) + length (now rest) ≤ limit s) ⌝ }
+    requires { ⌜ Lent s (now pages) (now lists) kinds k × (row k .paired ≡ true) × (length (now head) + length (now rest) ≤ limit s) ⌝ }
     requires { ⌜ (bitsFrom (bitsFrom 0 (now head)) (now rest) < 128 → (isText (now first) ≡ true) × (isText (now second) ≡ true)) ⌝ }
     ensures { λ r. ⌜ Judged (textRefusal (entered k (now (first .entry)) (now (second .entry)))) s (HasPair k (now (head .entry)) (now (rest .entry))) (now (pages .entry)) (now (lists .entry)) (addedBy r) (now (pages .exit)) (now (lists .exit)) ⌝ }
 {
@@ -259,7 +260,7 @@ fn add_pair(
 }
 
 fn add_tagged(pages: &mut [u8], lists: &mut [u8], s: Sizes, text: &[u8], tag: &[u8]) -> AddResult
-    requires { ⌜ Lent s (now pages) (now lists) 2 × (length (now text) + length (now tag) ≤ limit s) ⌝ }
+    requires { ⌜ Lent s (now pages) (now lists) kinds 2 × (length (now text) + length (now tag) ≤ limit s) ⌝ }
     ensures { λ r. ⌜ Judged (textRefusal (entered 2 (now (text .entry)) (now (tag .entry)))) s (λ st a. a ≡ entered 2 (now (text .entry)) (now (tag .entry))) (now (pages .entry)) (now (lists .entry)) (addedBy r) (now (pages .exit)) (now (lists .exit)) ⌝ }
 {
     let k = TAGGED;
@@ -277,13 +278,13 @@ pub fn add_name<'a>(
     first: &'a [u8],
     second: &'a [u8],
 ) -> AddResult
-    requires { ⌜ Lent s (now pages) (now lists) kind × (shapeRefusal s (entered kind (now first) (now second)) ≡ none) ⌝ }
+    requires { ⌜ Lent s (now pages) (now lists) kinds kind × (shapeRefusal s (entered kind (now first) (now second)) ≡ none) ⌝ }
     ensures { λ r. ⌜ Judged (textRefusal (entered kind (now (first .entry)) (now (second .entry)))) s (λ st a. a ≡ entered kind (now (first .entry)) (now (second .entry))) (now (pages .entry)) (now (lists .entry)) (addedBy r) (now (pages .exit)) (now (lists .exit)) ⌝ }
 {
     if kind == PLAIN {
         let none = &first[..0];
         let x = fnv::scan(fnv::START, 0, first);
-        let plain = x.bits < 0x80;
+        let ascii = x.bits < 0x80;
         return enter::add_str(
             pages,
             lists,
@@ -291,7 +292,7 @@ pub fn add_name<'a>(
             PLAIN,
             first,
             second,
-            plain,
+            ascii,
             x.h,
             Mode::Raw,
             none,

@@ -4,7 +4,7 @@ use Rattle.layout.specs.Sizes.{nameLimit, limit}
 use Rattle.utf8.specs.Text.{firstOf, isText}
 use Rattle.parts.specs.Parts.{escape, escaped}
 use Rattle.ranked_pair_iri_dv_dict.specs.Split.{headOf}
-use Rattle.ranked_pair_dictionary.specs.FrequentId.{furtherBytes, frequentId, fid, writeRefusal, writeAnswer, writeBuffer}
+use Rattle.ranked_pair_dictionary.specs.FrequentId.{furtherBytes, frequentId, fid, writeRefusal, writeFidAnswer, writeFidBuffer}
 use Rattle.string_dv_dict.specs.Packed.{packed, pairRefusal}
 use Rattle.string_dv_dict.specs.Answers.{packAnswer, packBuffer}
 use Rattle.bytes_buffer.specs.Pages.{fits, grown, grownAt, allPages}
@@ -15,7 +15,7 @@ use Rattle.model.specs.Steps.{shapeRefusal, textRefusal, checks, room, decide, 
 use Rattle.examples.specs.Examples.{Examples}
 
 pub examples : Examples
-unfolding nameLimit limit blockRule firstOf isText escape escaped headOf furtherBytes frequentId fid writeRefusal writeAnswer writeBuffer packed pairRefusal packAnswer packBuffer fits grown grownAt allPages pick numberOf shapeRefusal textRefusal checks room decide extended
+unfolding nameLimit limit blockRule firstOf isText escape escaped headOf furtherBytes frequentId fid writeRefusal writeFidAnswer writeFidBuffer packed pairRefusal packAnswer packBuffer fits grown grownAt allPages pick numberOf shapeRefusal textRefusal checks room decide extended
 examples = record {
   m1-m3 = refl;
   m1-m2-rests = refl;

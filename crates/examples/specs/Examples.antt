@@ -8,10 +8,10 @@ use lib.ListN.{replicate, drop}
 use Rattle.slices.specs.Bytes.{Bytes}
 use Rattle.utf8.specs.Text.{isText}
 use Rattle.refusals.specs.declared.Refusal.the-variants.{HighNumber, NoBlock}
-use Rattle.refusals.specs.Numbers.{numberOf}
+use Rattle.refusals.specs.Numbers.{refusalNumber}
 use Rattle.refusals.specs.declared.Written.the-variants.{Length, Refused}
 use Rattle.ranked_pair_iri_dv_dict.specs.Split.{headOf, lengthOf}
-use Rattle.ranked_pair_dictionary.specs.FrequentId.{writeAnswer, writeBuffer}
+use Rattle.ranked_pair_dictionary.specs.FrequentId.{writeFidAnswer, writeFidBuffer}
 use Rattle.layout.specs.declared.Sizes.{Sizes}
 use Rattle.meta_dv_dict.specs.Rule.{blockRule}
 use Rattle.string_dv_dict.specs.Answers.{packAnswer, packBuffer}
@@ -32,8 +32,8 @@ abbrev pub found : ℕ → Bytes
 found n = replicate n 170
 
 -- 127 times 'a', then '>'.
-abbrev pub longTag : Bytes
-longTag = replicate 127 97 ++ 62 ∷ []
+abbrev pub m7Tag : Bytes
+m7Tag = replicate 127 97 ++ 62 ∷ []
 
 -- Block width 4, b blocks.
 abbrev pub sizes : ℕ → Sizes
@@ -71,17 +71,17 @@ pub record Examples : Type 0 where
   pub m1-m3 : lengthOf (headOf http) ∷ lengthOf (headOf (97 ∷ 47 ∷ [])) ∷ lengthOf (headOf press) ∷ [] ≡ 11 ∷ 2 ∷ 0 ∷ []
   pub m1-m2-rests : drop (lengthOf (headOf http)) http ∷ drop (lengthOf (headOf (97 ∷ 47 ∷ []))) (97 ∷ 47 ∷ []) ∷ [] ≡ (98 ∷ []) ∷ [] ∷ []
   -- M4 leads of 63, 64, 16,383 and 16,384, in a buffer of 5 bytes.
-  pub m4 : writeBuffer 63 (found 5) ∷ writeBuffer 64 (found 5) ∷ writeBuffer 16383 (found 5) ∷ writeBuffer 16384 (found 5) ∷ []
+  pub m4 : writeFidBuffer 63 (found 5) ∷ writeFidBuffer 64 (found 5) ∷ writeFidBuffer 16383 (found 5) ∷ writeFidBuffer 16384 (found 5) ∷ []
       ≡ (63 ∷ found 4) ∷ (64 ∷ 64 ∷ found 3) ∷ (127 ∷ 255 ∷ found 3) ∷ (128 ∷ 64 ∷ 0 ∷ found 2) ∷ []
   -- M5 the lead of 4,194,304; 2^30 gives 12.
-  pub m5 : writeBuffer 4194304 (found 5) ≡ 192 ∷ 64 ∷ 0 ∷ 0 ∷ found 1
-  pub m5-answers : writeAnswer 4194304 5 ∷ writeAnswer (2 ^ 30) 5 ∷ [] ≡ Length 4 ∷ Refused HighNumber ∷ []
-  pub m5-number : numberOf HighNumber ≡ 12
+  pub m5 : writeFidBuffer 4194304 (found 5) ≡ 192 ∷ 64 ∷ 0 ∷ 0 ∷ found 1
+  pub m5-answers : writeFidAnswer 4194304 5 ∷ writeFidAnswer (2 ^ 30) 5 ∷ [] ≡ Length 4 ∷ Refused HighNumber ∷ []
+  pub m5-number : refusalNumber HighNumber ≡ 12
   -- M6 text `Ein`, tag `de`.
   pub m6 : packBuffer (69 ∷ 105 ∷ 110 ∷ []) (100 ∷ 101 ∷ []) (found 7) ≡ 2 ∷ 100 ∷ 101 ∷ 69 ∷ 105 ∷ 110 ∷ found 1
   -- M7 a tag of 127 'a' and '>', text empty.
-  pub m7 : packBuffer [] longTag (found 131) ≡ 0 ∷ replicate 127 97 ++ 92 ∷ 97 ∷ 62 ∷ []
-  pub m7-answer : packAnswer [] longTag 131 ≡ Length 131
+  pub m7 : packBuffer [] m7Tag (found 131) ≡ 0 ∷ replicate 127 97 ++ 92 ∷ 97 ∷ 62 ∷ []
+  pub m7-answer : packAnswer [] m7Tag 131 ≡ Length 131
   -- M8 text: yes; no, no, no.
   pub m8 : isText (244 ∷ 143 ∷ 191 ∷ 191 ∷ []) ∷ isText (192 ∷ 128 ∷ []) ∷ isText (237 ∷ 160 ∷ 128 ∷ []) ∷ isText (244 ∷ 144 ∷ 128 ∷ 128 ∷ []) ∷ []
       ≡ true ∷ false ∷ false ∷ false ∷ []
@@ -91,7 +91,7 @@ pub record Examples : Type 0 where
       ∷ blockRule (sizes 8) (iris 65) 1 ∷ blockRule (sizes 8) (strings 16) 1 ∷ blockRule (sizes 8) (strings 32) 1
       ∷ blockRule (sizes 7) (iris 64) 0 ∷ []
       ≡ some 16 ∷ some 32 ∷ some 64 ∷ some 112 ∷ some 48 ∷ some 80 ∷ some 96 ∷ none ∷ []
-  pub m11-number : numberOf NoBlock ≡ 10
+  pub m11-number : refusalNumber NoBlock ≡ 10
   -- The same as the adds' own answers; and with B 7 a known one after the refused one.
   pub m9-m11-answers : addAnswer (sizes 8) (afterIris 8 16) (named 0 16) ∷ addAnswer (sizes 8) (afterIris 8 32) (named 0 32)
       ∷ addAnswer (sizes 8) (afterIris 8 48) (named 0 48) ∷ addAnswer (sizes 8) (afterIris 8 64) (named 0 64)

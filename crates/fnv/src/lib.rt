@@ -22,7 +22,7 @@ pub fn fnv_step(h: u32, b: u8) -> u32
     wrapping_mul(h ^ b as u32, 16777619)
 }
 
-// A hash, and each bit that one of the bytes has: below 0x80 every byte is plain, and with it text.
+// A hash, and each bit that one of the bytes has: below 0x80 every byte is ASCII, and with it text.
 pub struct Scanned {
     pub h: u32,
     pub bits: u8,

@@ -11,38 +11,38 @@ use lib.Pow.{pow-mono}
 use Rattle.slices.proofs.Tests.{Split, split, and-left, and-right}
 use Rattle.layout.specs.declared.Sizes.{Sizes}
 use Rattle.layout.specs.declared.Made.the-variants.{Fit, BadSize}
-use Rattle.layout.specs.Sizes.{between, inRange, InRange, made, nameLimit, limit, pageSize, pageBytes}
+use Rattle.layout.specs.Sizes.{within, inRange, InRange, made, nameLimit, limit, pageSize, pageBytes}
 
-pub between-facts : (lo hi x : ℕ) → between lo hi x ≡ true → (lo ≤ x) × (x ≤ hi)
-between-facts lo hi x e = (leb-true lo x (and-left (leb lo x) _ e), leb-true x hi (and-right (leb lo x) _ e))
+pub within-facts : (lo hi x : ℕ) → within lo hi x ≡ true → (lo ≤ x) × (x ≤ hi)
+within-facts lo hi x e = (leb-true lo x (and-left (leb lo x) _ e), leb-true x hi (and-right (leb lo x) _ e))
 
-pub facts-between : (lo hi x : ℕ) → lo ≤ x → x ≤ hi → between lo hi x ≡ true
-facts-between lo hi x a b = rw (le-leb lo x a) (le-leb x hi b)
+pub facts-within : (lo hi x : ℕ) → lo ≤ x → x ≤ hi → within lo hi x ≡ true
+facts-within lo hi x a b = rw (le-leb lo x a) (le-leb x hi b)
 
 pub ranged : (s : Sizes) → inRange s ≡ true → InRange s
 unfolding inRange
 ranged s e =
-    let r = and-right (between 13 20 (s .p)) _ e in
-    let q = and-right (between 1 1024 (s .n)) _ r in
-    let o = and-right (between 1 1048576 (s .e)) _ q in
+    let r = and-right (within 13 20 (s .p)) _ e in
+    let q = and-right (within 1 1024 (s .n)) _ r in
+    let o = and-right (within 1 1048576 (s .e)) _ q in
     record {
-      p = between-facts 13 20 (s .p) (and-left (between 13 20 (s .p)) _ e);
-      n = between-facts 1 1024 (s .n) (and-left (between 1 1024 (s .n)) _ r);
-      e = between-facts 1 1048576 (s .e) (and-left (between 1 1048576 (s .e)) _ q);
-      w = between-facts 4 24 (s .w) (and-left (between 4 24 (s .w)) _ o);
-      b = between-facts 1 4096 (s .b) (and-right (between 4 24 (s .w)) _ o);
+      p = within-facts 13 20 (s .p) (and-left (within 13 20 (s .p)) _ e);
+      n = within-facts 1 1024 (s .n) (and-left (within 1 1024 (s .n)) _ r);
+      e = within-facts 1 1048576 (s .e) (and-left (within 1 1048576 (s .e)) _ q);
+      w = within-facts 4 24 (s .w) (and-left (within 4 24 (s .w)) _ o);
+      b = within-facts 1 4096 (s .b) (and-right (within 4 24 (s .w)) _ o);
     }
 
 pub in-range : (s : Sizes) → InRange s → inRange s ≡ true
 unfolding inRange
 in-range s h =
     rw (
-      facts-between 13 20 (s .p) (h .p .0) (h .p .1),
-      facts-between 1 1024 (s .n) (h .n .0) (h .n .1),
-      facts-between 1 1048576 (s .e) (h .e .0) (h .e .1),
-      facts-between 4 24 (s .w) (h .w .0) (h .w .1),
+      facts-within 13 20 (s .p) (h .p .0) (h .p .1),
+      facts-within 1 1024 (s .n) (h .n .0) (h .n .1),
+      facts-within 1 1048576 (s .e) (h .e .0) (h .e .1),
+      facts-within 4 24 (s .w) (h .w .0) (h .w .1),
     )
-    (facts-between 1 4096 (s .b) (h .b .0) (h .b .1))
+    (facts-within 1 4096 (s .b) (h .b .0) (h .b .1))
 
 -- What the constructor of the sizes answered says of them.
 pub made-fit : (s t : Sizes) → made s ≡ Fit t → (s ≡ t) × (inRange s ≡ true)

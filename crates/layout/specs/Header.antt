@@ -9,7 +9,7 @@ use Rattle.words.specs.Words.{wordAt}
 use Rattle.layout.specs.declared.Sizes.{Sizes}
 use Rattle.layout.specs.declared.Header.{Header}
 use Rattle.layout.specs.declared.Header.the-variants.{Opened, Unopened}
-use Rattle.layout.specs.Sizes.{inRange, pageBytes, listBytes}
+use Rattle.layout.specs.Sizes.{inRange, InRange, pageBytes, listBytes}
 use Rattle.layout.specs.Fields.{format}
 
 -- The sizes that lists has written in it.
@@ -40,3 +40,10 @@ pub record HeaderOf (s : Sizes) (pages : ℕ) (lists : Bytes) : Type 0 where
   pub ranged : inRange s ≡ true
   pub pages-fit : pageBytes s ≤ pages
   pub lists-fit : listBytes s ≤ length lists
+
+-- Slices long enough for the sizes, and a number i below `most`: a kind's below `kinds`, a dictionary's below `dictionaries`.
+pub record Lent (s : Sizes) (pages lists : Bytes) (most i : ℕ) : Type 0 where
+  pub ranged : InRange s
+  pub pages-fit : pageBytes s ≤ length pages
+  pub lists-fit : listBytes s ≤ length lists
+  pub known : i < most

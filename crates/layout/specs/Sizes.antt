@@ -2,14 +2,14 @@
 use Prim.Native.Nat.{ℕ, _+_, _*_, _^_, _≤_}
 use mathlib.Core.Path.{_≡_, refl}
 use mathlib.Core.Bool.{Bool, _&&_, cond}
-pub use Rattle.slices.specs.Ranges.{within as between}
+pub use Rattle.slices.specs.Ranges.{within}
 use Rattle.layout.specs.declared.Sizes.{Sizes}
 use Rattle.layout.specs.declared.Made.{Made}
 use Rattle.layout.specs.declared.Made.the-variants.{Fit, BadSize}
 
 -- Page width p, pages n, list length e, block width w, blocks b.
 unfoldable pub inRange : Sizes → Bool
-inRange s = between 13 20 (s .p) && (between 1 1024 (s .n) && (between 1 1048576 (s .e) && (between 4 24 (s .w) && between 1 4096 (s .b))))
+inRange s = within 13 20 (s .p) && (within 1 1024 (s .n) && (within 1 1048576 (s .e) && (within 4 24 (s .w) && within 1 4096 (s .b))))
 
 -- The same as facts.
 pub record InRange (s : Sizes) : Type 0 where

@@ -3,7 +3,7 @@ ghost use mathlib.Core.Path.{_≡_};
 ghost use Prim.Native.Nat.{_+_, _*_, _^_, _≤_, _<_};
 ghost use lib.ListN.{length, replicate};
 ghost use lib.Seq.{sets};
-ghost use Rattle.layout.specs.Sizes.{InRange, between, made, limit, kinds, dictionaries, pageSize, pageBytes, listBytes};
+ghost use Rattle.layout.specs.Sizes.{InRange, within, made, limit, kinds, dictionaries, pageSize, pageBytes, listBytes};
 ghost use Rattle.layout.specs.Fields.{dictAt, blocksAt};
 ghost use Rattle.layout.specs.Header.{headerOf};
 ghost use Rattle.layout.specs.Opened.{openedLists};
@@ -64,8 +64,8 @@ pub enum Made {
     BadSize,
 }
 
-fn within(lo: usize, hi: usize, x: usize) -> bool
-    ensures { λ r. ⌜ r ≡ between lo hi x ⌝ }
+fn is_within(lo: usize, hi: usize, x: usize) -> bool
+    ensures { λ r. ⌜ r ≡ within lo hi x ⌝ }
 {
     if x < lo {
         return false;
@@ -103,19 +103,19 @@ impl Sizes {
     pub fn new(p: usize, n: usize, e: usize, w: usize, b: usize) -> Made
         ensures { λ r. ⌜ r ≡ made (record { p = p; n = n; e = e; w = w; b = b }) ⌝ }
     {
-        if !within(Sizes::P_LEAST, Sizes::P_MOST, p) {
+        if !is_within(Sizes::P_LEAST, Sizes::P_MOST, p) {
             return Made::BadSize;
         }
-        if !within(Sizes::N_LEAST, Sizes::N_MOST, n) {
+        if !is_within(Sizes::N_LEAST, Sizes::N_MOST, n) {
             return Made::BadSize;
         }
-        if !within(Sizes::E_LEAST, Sizes::E_MOST, e) {
+        if !is_within(Sizes::E_LEAST, Sizes::E_MOST, e) {
             return Made::BadSize;
         }
-        if !within(Sizes::W_LEAST, Sizes::W_MOST, w) {
+        if !is_within(Sizes::W_LEAST, Sizes::W_MOST, w) {
             return Made::BadSize;
         }
-        if !within(Sizes::B_LEAST, Sizes::B_MOST, b) {
+        if !is_within(Sizes::B_LEAST, Sizes::B_MOST, b) {
             return Made::BadSize;
         }
         Made::Fit(Sizes { p, n, e, w, b })
@@ -205,7 +205,7 @@ pub fn check_header(pages: &[u8], lists: &[u8]) -> Header
 }
 
 // Sets the first n bytes to 0.
-fn clear(s: &mut [u8], n: usize)
+fn fill_zero(s: &mut [u8], n: usize)
     requires { ⌜ n ≤ length (now s) ⌝ }
     ensures { λ _. ⌜ now (s .exit) ≡ sets (now (s .entry)) 0 (replicate n 0) ⌝ }
 {
@@ -222,7 +222,7 @@ pub fn init(lists: &mut [u8], s: Sizes)
     ensures { λ _. ⌜ now (lists .exit) ≡ openedLists s (now (lists .entry)) ⌝ }
 {
     let n = list_bytes(s);
-    clear(lists, n);
+    fill_zero(lists, n);
     words::put_word(lists, 0, FORMAT);
     words::put_word(lists, 1, s.p);
     words::put_word(lists, 2, s.n);

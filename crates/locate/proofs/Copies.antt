@@ -6,7 +6,7 @@ use native.Mathlib.Omega.{arith}
 use lib.ListN.{length, take, drop, length-append}
 use lib.Seq.{sets}
 use Rattle.slices.specs.Bytes.{Bytes}
-use Rattle.string_dv_dict.proofs.Writes.{two}
+use Rattle.string_dv_dict.proofs.Writes.{two-parts}
 use Rattle.locate.specs.declared.Pieces.{Pieces}
 use Rattle.locate.specs.Located.{unescapedIf, piecesIn, Copyable}
 use Rattle.locate.proofs.Cuts.{length-cut}
@@ -30,5 +30,5 @@ module _ (pages : Bytes) (x : Pieces) (W : Copyable pages x) where
   unfolding piecesIn
   copied b h =
       ap (λ n. sets (sets b 0 (frontOf pages x)) n (backOf pages x)) (sym front-length)
-      ∙ two (frontOf pages x) (backOf pages x) b (omega (arith, both-lengths))
+      ∙ two-parts (frontOf pages x) (backOf pages x) b (omega (arith, both-lengths))
       ∙ ap (λ n. (frontOf pages x ++ backOf pages x) ++ drop n b) (W .lengths)

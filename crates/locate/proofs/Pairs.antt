@@ -15,7 +15,7 @@ use Rattle.slices.specs.Bytes.{Bytes}
 use Rattle.slices.proofs.Tests.{Split, split}
 use Rattle.refusals.specs.declared.Refusal.{Refusal}
 use Rattle.ranked_pair_dictionary.specs.declared.FrequentId.the-variants.{Value, Refused}
-use Rattle.ranked_pair_dictionary.specs.FrequentId.{fid, readFurther, readAnswer}
+use Rattle.ranked_pair_dictionary.specs.FrequentId.{fid, readFurther, readFidAnswer}
 use Rattle.ranked_pair_dictionary.proofs.Laws.{fid-read}
 use Rattle.ranked_pair_iri_dv_dict.specs.Split.{headLength}
 use Rattle.layout.specs.declared.Sizes.{Sizes}
@@ -39,8 +39,8 @@ use Rattle.locate.specs.Located.{piecesIn, LocatesEntry}
 use Rattle.locate.proofs.Cuts.{length-cut, cut-behind}
 
 -- A frequent id that was read lies in the bytes.
-pub read-fits : (b : Bytes) (v n : ℕ) → readAnswer b ≡ Value v n → n ≤ length b
-unfolding readAnswer readFurther
+pub read-fits : (b : Bytes) (v n : ℕ) → readFidAnswer b ≡ Value v n → n ≤ length b
+unfolding readFidAnswer readFurther
 read-fits [] v n e = let z : _≡_ {A = ℕ} 0 1 = cc in absurd (omega arith)
 read-fits (x ∷ b) v n e = go (split (leb (x / 64) (length b)))
   where
@@ -96,7 +96,7 @@ module _ (s : Sizes) (pages lists : Bytes) (k at len : ℕ) (known : k < kinds) 
     f : ℕ
     stored : entryNumber (row k .head a) (st .part k .heads) ≡ some f
     bytes : take len (drop at pages) ≡ fid f ++ row k .rest a
-    reads : readAnswer (take len (drop at pages)) ≡ Value f (length (fid f))
+    reads : readFidAnswer (take len (drop at pages)) ≡ Value f (length (fid f))
 
   begins : (st : State) (a : Name) → Stands s st pages lists → a .kind ≡ k → newHead a (st .part k) ≡ false
       → take len (drop at pages) ≡ keyOf (st .part k .heads) a
@@ -114,11 +114,11 @@ module _ (s : Sizes) (pages lists : Bytes) (k at len : ℕ) (known : k < kinds) 
         f = h .0;
         stored = h .1;
         bytes = b;
-        reads = ap readAnswer b ∙ fid-read (h .0) (row k .rest a) (omega (arith, low, S .good .part k .fewHeads, S .good .sizes .e));
+        reads = ap readFidAnswer b ∙ fid-read (h .0) (row k .rest a) (omega (arith, low, S .good .part k .fewHeads, S .good .sizes .e));
       }
 
   -- The lookup of the head whose number was read.
-  head-given : (st : State) (a : Name) → Stands s st pages lists → Begins a st → (v n : ℕ) → readAnswer (take len (drop at pages)) ≡ Value v n
+  head-given : (st : State) (a : Name) → Stands s st pages lists → Begins a st → (v n : ℕ) → readFidAnswer (take len (drop at pages)) ≡ Value v n
       → (r : Lookup) → Looked s (row k .headsAt) v lists r → Gives pages (some (row k .head a)) r
   head-given st a S B v n e r look =
       let u : Value v n ≡ Value (B .f) (length (fid (B .f))) = sym e ∙ B .reads in
@@ -126,7 +126,7 @@ module _ (s : Sizes) (pages lists : Bytes) (k at len : ℕ) (known : k < kinds) 
       let h : S .store .entries (row k .headsAt) v ≡ some (row k .head a) = rw w (head-entry s st pages lists S k known pair (B .f) (row k .head a) (B .stored)) in
       rw h at (look .right pages (S .store) there (S .stored))
 
-  pub bad-lead : (why : Refusal) → readAnswer (take len (drop at pages)) ≡ Refused why → LocatesEntry s pages lists k at len Bad
+  pub bad-lead : (why : Refusal) → readFidAnswer (take len (drop at pages)) ≡ Refused why → LocatesEntry s pages lists k at len Bad
   bad-lead why e =
       record {
         range = tt;
@@ -135,7 +135,7 @@ module _ (s : Sizes) (pages lists : Bytes) (k at len : ℕ) (known : k < kinds) 
             let z : _≡_ {A = ℕ} 0 1 = cc in absurd (omega arith);
       }
 
-  module _ (v n : ℕ) (e : readAnswer (take len (drop at pages)) ≡ Value v n) where
+  module _ (v n : ℕ) (e : readFidAnswer (take len (drop at pages)) ≡ Value v n) where
     pub bad-head : (r : Lookup) → (tagOf the-type r ≡ 1) ⊎ (tagOf the-type r ≡ 2) → Looked s (row k .headsAt) v lists r
         → LocatesEntry s pages lists k at len Bad
     bad-head r t look =

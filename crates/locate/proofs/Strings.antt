@@ -14,7 +14,7 @@ use Rattle.string_dv_dict.specs.Packed.{packed, tagIn, textIn, accepted, unesca
 use Rattle.string_dv_dict.specs.Scans.{splitOf}
 use Rattle.string_dv_dict.proofs.Escapes.{read-escaped}
 use Rattle.string_dv_dict.proofs.Laws.{is-legal, pack-unpack}
-use Rattle.string_dv_dict.proofs.Located.{split-parts, long-low}
+use Rattle.string_dv_dict.proofs.PackedParts.{split-parts, long-low}
 use Rattle.layout.specs.declared.Sizes.{Sizes}
 use Rattle.layout.specs.Sizes.{pageBytes}
 use Rattle.model.specs.Names.{Name}

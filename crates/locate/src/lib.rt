@@ -55,7 +55,7 @@ fn locate_pair(pages: &[u8], lists: &[u8], s: Sizes, k: usize, at: usize, len: u
     let FrequentId::Value { value, length } = lead else {
         return Located::Bad;
     };
-    let head = bytes_dictionary::locate(lists, s, names::head_dictionary(k), EntryId(value));
+    let head = bytes_dictionary::look_up(lists, s, names::head_dictionary(k), EntryId(value));
     let Lookup::At {
         at: head_at,
         len: head_len,
@@ -158,7 +158,7 @@ pub fn locate_name(pages: &[u8], lists: &[u8], s: Sizes, number: GlobalId) -> Lo
     match meta_dv_dict::global_to_local(lists, s, number) {
         Owner::Local(k, local) => {
             let d = names::main_dictionary(k);
-            match bytes_dictionary::locate(lists, s, d, names::local_to_entry(local)) {
+            match bytes_dictionary::look_up(lists, s, d, names::local_to_entry(local)) {
                 Lookup::At { at, len } => locate_entry(pages, lists, s, k, at, len),
                 Lookup::Nothing => Located::Nothing,
                 Lookup::Bad => Located::Bad,

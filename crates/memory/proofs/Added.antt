@@ -24,7 +24,7 @@ use Rattle.meta_dv_dict.specs.Tables.{BlocksAt}
 use Rattle.model.specs.Names.{Name}
 use Rattle.model.specs.Kinds.{row}
 use Rattle.model.specs.State.{Stamped, Part, State, stampOf}
-use Rattle.model.specs.Steps.{headOf, newHead, keyOf, partAfter, spaceAfter, extended}
+use Rattle.model.specs.Steps.{nameHead, newHead, keyOf, partAfter, spaceAfter, extended}
 use Rattle.model.specs.Keys.{keysOf}
 use Rattle.model.proofs.Legal.{legal-kind}
 use Rattle.model.proofs.Keys.{length-keys, keys-after}
@@ -133,7 +133,7 @@ abbrev pub partWith : State → Name → Part
 partWith st a = partAfter a (partOf st a) (stampOf (st .blocks))
 
 -- The store that was `store` has the entries of one name more.
-pub record Added (s : Sizes) (st : State) (store store′ : Store) (a : Name) : Type 0 where
+pub record StoreAdded (s : Sizes) (st : State) (store store′ : Store) (a : Name) : Type 0 where
   pub main : (i : ℕ) → store′ .entries (mainOf a) i ≡ entryIn i (keyIn st a ∷ keysOf (partOf st a .heads) (partOf st a .names))
   pub stamps : (i : ℕ) → store′ .stamp (mainOf a) i ≡ stampIn i (stampedIn st a ∷ partOf st a .names)
   pub heads : row (a .kind) .paired ≡ true → (i : ℕ) → store′ .entries (headsOf a) i ≡ entryIn i (partWith st a .heads)
@@ -144,7 +144,7 @@ pub record Added (s : Sizes) (st : State) (store store′ : Store) (a : Name) : 
 module _ {s : Sizes} {st : State} {pages lists : Bytes} (S : Stands s st pages lists) where
   -- ---- memory that holds that store and the blocks after the name stands for the state with it
 
-  module _ {a : Name} {g : ℕ} (E : Entering s st a g) {store′ : Store} (A : Added s st (S .store) store′ a) where
+  module _ {a : Name} {g : ℕ} (E : Entering s st a g) {store′ : Store} (A : StoreAdded s st (S .store) store′ a) where
     own-part : PartIn store′ (a .kind) (suc (stampOf (st .blocks))) (partWith st a)
     own-part =
         record {
@@ -206,7 +206,7 @@ module _ {s : Sizes} {st : State} {pages lists : Bytes} (S : Stands s st pages l
         i
 
     -- The head is stored, or the kind has none.
-    pub added-one : newHead a (partOf st a) ≡ false → Added s st (S .store) (inserted s (S .store) (mainOf a) (keyIn st a) (stampOf (st .blocks))) a
+    pub added-one : newHead a (partOf st a) ≡ false → StoreAdded s st (S .store) (inserted s (S .store) (mainOf a) (keyIn st a) (stampOf (st .blocks))) a
     added-one old =
         let P = S .parts (a .kind) l in
         let key : Bytes = keyIn st a in
@@ -232,19 +232,19 @@ module _ {s : Sizes} {st : State} {pages lists : Bytes} (S : Stands s st pages l
 
       -- The store with the head.
       abbrev headed : Store
-      headed = inserted s (S .store) (headsOf a) (headOf a) (stampOf (st .blocks))
+      headed = inserted s (S .store) (headsOf a) (nameHead a) (stampOf (st .blocks))
 
       main-beside : mainOf a ≢ headsOf a
       main-beside e = head-apart (a .kind) pair (sym e)
 
-      head-added : (i : ℕ) → headed .entries (headsOf a) i ≡ entryIn i (headOf a ∷ partOf st a .heads)
+      head-added : (i : ℕ) → headed .entries (headsOf a) i ≡ entryIn i (nameHead a ∷ partOf st a .heads)
       head-added i =
-          insert-entries s (S .store) (headsOf a) (headOf a) (stampOf (st .blocks)) i
-          ∙ entry-more (S .store .entries (headsOf a)) (partOf st a .heads) (S .store .count (headsOf a)) (headOf a) (S .parts (a .kind) l .heads pair) (head-count S (a .kind) l pair) i
+          insert-entries s (S .store) (headsOf a) (nameHead a) (stampOf (st .blocks)) i
+          ∙ entry-more (S .store .entries (headsOf a)) (partOf st a .heads) (S .store .count (headsOf a)) (nameHead a) (S .parts (a .kind) l .heads pair) (head-count S (a .kind) l pair) i
 
       head-older : (i : ℕ) → i < suc (length (partOf st a .heads)) → headed .stamp (headsOf a) i < suc (stampOf (st .blocks))
       head-older i h =
-          subst (λ (x : ℕ). x < suc (stampOf (st .blocks))) (sym (insert-stamps s (S .store) (headsOf a) (headOf a) (stampOf (st .blocks)) i))
+          subst (λ (x : ℕ). x < suc (stampOf (st .blocks))) (sym (insert-stamps s (S .store) (headsOf a) (nameHead a) (stampOf (st .blocks)) i))
           (go (ℕ-discrete (S .store .count (headsOf a)) i))
         where
           go : Dec (S .store .count (headsOf a) ≡ i) → upd (S .store .stamp (headsOf a)) (S .store .count (headsOf a)) (stampOf (st .blocks)) i < suc (stampOf (st .blocks))
@@ -253,29 +253,29 @@ module _ {s : Sizes} {st : State} {pages lists : Bytes} (S : Stands s st pages l
               let b : i < length (partOf st a .heads) = omega (arith, head-count S (a .kind) l pair) in
               rw (ne-eqb (S .store .count (headsOf a)) i q) (omega (arith, S .parts (a .kind) l .older pair i b))
 
-      pub added-both : Added s st (S .store) (inserted s headed (mainOf a) (keyIn st a) (stampOf (st .blocks))) a
+      pub added-both : StoreAdded s st (S .store) (inserted s headed (mainOf a) (keyIn st a) (stampOf (st .blocks))) a
       added-both =
           let key : Bytes = keyIn st a in
           let t : ℕ = stampOf (st .blocks) in
-          let c = count-other s (S .store) (headsOf a) (headOf a) t (mainOf a) main-beside in
+          let c = count-other s (S .store) (headsOf a) (nameHead a) t (mainOf a) main-beside in
           record {
-            main = main-more headed (entries-other s (S .store) (headsOf a) (headOf a) t (mainOf a) main-beside) c;
-            stamps = stamp-added headed (stamp-other s (S .store) (headsOf a) (headOf a) t (mainOf a) main-beside) c;
+            main = main-more headed (entries-other s (S .store) (headsOf a) (nameHead a) t (mainOf a) main-beside) c;
+            stamps = stamp-added headed (stamp-other s (S .store) (headsOf a) (nameHead a) t (mainOf a) main-beside) c;
             heads = λ p i. rw new (ap (λ (f : Entries). f i) (entries-other s headed (mainOf a) key t (headsOf a) (head-apart (a .kind) p)) ∙ head-added i);
             older = λ p i h.
                 let b : i < suc (length (partOf st a .heads)) = rw new at h in
                 subst (λ (x : ℕ). x < suc t) (sym (ap (λ (f : ℕ → ℕ). f i) (stamp-other s headed (mainOf a) key t (headsOf a) (head-apart (a .kind) p)))) (head-older i b);
             others = λ d n m. (
-              entries-other s headed (mainOf a) key t d n ∙ entries-other s (S .store) (headsOf a) (headOf a) t d m,
-              stamp-other s headed (mainOf a) key t d n ∙ stamp-other s (S .store) (headsOf a) (headOf a) t d m,
+              entries-other s headed (mainOf a) key t d n ∙ entries-other s (S .store) (headsOf a) (nameHead a) t d m,
+              stamp-other s headed (mainOf a) key t d n ∙ stamp-other s (S .store) (headsOf a) (nameHead a) t d m,
             );
             spaces = λ d n.
                 rw new
                 (ap (λ (f : ℕ → Space). f d) (insert-spaces s headed (mainOf a) key t)
-                ∙ grown-agree s (headed .space) (grownAt s (st .space) (headsOf a) (length (headOf a))) (mainOf a) (length key) (main-below (a .kind))
+                ∙ grown-agree s (headed .space) (grownAt s (st .space) (headsOf a) (length (nameHead a))) (mainOf a) (length key) (main-below (a .kind))
                 (λ e m.
-                ap (λ (f : ℕ → Space). f e) (insert-spaces s (S .store) (headsOf a) (headOf a) t)
-                ∙ grown-agree s (S .store .space) (st .space) (headsOf a) (length (headOf a)) (head-below (a .kind)) (S .spaces) e m)
+                ap (λ (f : ℕ → Space). f e) (insert-spaces s (S .store) (headsOf a) (nameHead a) t)
+                ∙ grown-agree s (S .store .space) (st .space) (headsOf a) (length (nameHead a)) (head-below (a .kind)) (S .spaces) e m)
                 d
                 n);
           }

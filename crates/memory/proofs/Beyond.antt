@@ -13,7 +13,7 @@ use Rattle.bytes_buffer.specs.declared.Spot.{Spot}
 use Rattle.bytes_dictionary.specs.Written.{pagesAfter, listsAfter, HasRoom}
 use Rattle.bytes_dictionary.proofs.Store.{length-pages, length-lists}
 use Rattle.bytes_dictionary.proofs.Beside.{bytes-beside, pages-beside}
-use Rattle.meta_dv_dict.specs.Answers.{written}
+use Rattle.meta_dv_dict.specs.Answers.{blockWritten}
 use Rattle.meta_dv_dict.proofs.Written.{length-written, byte-written}
 use Rattle.memory.specs.Promises.{SameBeyond}
 
@@ -51,7 +51,7 @@ insert-beyond s pages lists d n place spot stamp key r f g dl nl pl h =
     }
 
 pub block-beyond : (s : Sizes) (pages lists : Bytes) (k n g : ℕ) → InRange s → listBytes s ≤ length lists → k < kinds → n / 2 ^ s .w < s .b → g < s .b
-    → SameBeyond s pages lists pages (written s lists k n g)
+    → SameBeyond s pages lists pages (blockWritten s lists k n g)
 block-beyond s pages lists k n g r f h l e =
     let a = length-written s lists k n g in
     record {

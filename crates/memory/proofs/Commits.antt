@@ -35,7 +35,7 @@ use Rattle.bytes_dictionary.proofs.Agree.{store-agree}
 use Rattle.bytes_dictionary.proofs.Store.{store-more}
 use Rattle.meta_dv_dict.specs.Blocks.{Blocks, pick, took}
 use Rattle.meta_dv_dict.specs.Tables.{BlocksAt}
-use Rattle.meta_dv_dict.specs.Answers.{written}
+use Rattle.meta_dv_dict.specs.Answers.{blockWritten}
 use Rattle.meta_dv_dict.proofs.Steps.{picked}
 use Rattle.meta_dv_dict.proofs.Pigeons.{picked-below}
 use Rattle.meta_dv_dict.proofs.Tables.{took-blocks, kept-blocks}
@@ -88,11 +88,11 @@ module _ (s : Sizes) (store : Store) (d : ℕ) (key : Bytes) (t j : ℕ) (q : j 
 
 -- They lie behind the dictionaries' ones.
 commit-block : (s : Sizes) (store : Store) (b : Blocks) (pages lists : Bytes) (k g : ℕ) → StoreAt s store pages lists → BlocksAt s b lists → k < kinds → pick s b k ≡ some g
-    → StoreAt s store pages (written s lists k (b .next k) g) × BlocksAt s (took (s .w) b k g) (written s lists k (b .next k) g)
+    → StoreAt s store pages (blockWritten s lists k (b .next k) g) × BlocksAt s (took (s .w) b k g) (blockWritten s lists k (b .next k) g)
 commit-block s store b pages lists k g S T h e =
     let p = picked s b k g (T .sound) (T .below) e .1 in
     let q = picked-below s b k g (T .sound) (T .below) e in (
-      store-agree s pages pages lists (written s lists k (b .next k) g)
+      store-agree s pages pages lists (blockWritten s lists k (b .next k) g)
           (λ i l. refl)
           (λ i l. byte-written s lists k (b .next k) g h q p i (inl (omega (arith, dict-end s, blocks-from s 0))))
           store
@@ -137,7 +137,7 @@ module _ (s : Sizes) (store : Store) (b : Blocks) (pages lists : Bytes) (S : Sto
 
   pub commit-one : (d place : ℕ) (spot : Spot) (t : ℕ) (key : Bytes) (k g : ℕ) → Ready s store pages lists d place spot t key → k < kinds → pick s b k ≡ some g
       → let pages′ = pagesAfter s pages spot key in
-      let lists′ = written s (listsAfter s lists d (store .count d) place spot t key) k (b .next k) g in
+      let lists′ = blockWritten s (listsAfter s lists d (store .count d) place spot t key) k (b .next k) g in
       StoreAt s (inserted s store d key t) pages′ lists′ × BlocksAt s (took (s .w) b k g) lists′
   commit-one d place spot t key k g R h e =
       let A = insert-commit d place spot t key R in
@@ -205,7 +205,7 @@ module _ (s : Sizes) (store : Store) (b : Blocks) (pages lists : Bytes) (S : Sto
       → let pages₁ = pagesAfter s pages hspot head in
       let lists₁ = listsAfter s lists dh (store .count dh) hplace hspot t head in
       let pages′ = pagesAfter s pages₁ spot key in
-      let lists′ = written s (listsAfter s lists₁ d (store .count d) place spot t key) k (b .next k) g in
+      let lists′ = blockWritten s (listsAfter s lists₁ d (store .count d) place spot t key) k (b .next k) g in
       StoreAt s (inserted s (inserted s store dh head t) d key t) pages′ lists′ × BlocksAt s (took (s .w) b k g) lists′
   unfolding after-head
   commit-both dh hplace hspot head d place spot key t k g q R dl F room short planned spotted later h e =

@@ -30,11 +30,11 @@ use Rattle.bytes_buffer.proofs.Plans.{plan-says, current-pages, next-pages, non
 use Rattle.bytes_dictionary.specs.Written.{pagesAfter, listsAfter, IsSpot}
 use Rattle.bytes_dictionary.specs.Ready.{Ready}
 use Rattle.meta_dv_dict.specs.Blocks.{pick, global}
-use Rattle.meta_dv_dict.specs.Answers.{written}
+use Rattle.meta_dv_dict.specs.Answers.{blockWritten}
 use Rattle.model.specs.Names.{Name}
 use Rattle.model.specs.Kinds.{row}
 use Rattle.model.specs.State.{Stamped, State, stampOf, localOf, entryNumber, numberOf}
-use Rattle.model.specs.Steps.{checks, headOf, newHead, keyOf, isFull, spaceAfter, room, refuse, found, enter, decide, extended}
+use Rattle.model.specs.Steps.{checks, nameHead, newHead, keyOf, isFull, spaceAfter, room, refuse, found, enter, decide, extended}
 use Rattle.model.specs.Keys.{keysOf, lookedUp}
 use Rattle.model.specs.Good.{NamesOf, Covered}
 use Rattle.model.proofs.Legal.{legal-kind}
@@ -96,7 +96,7 @@ unstored s k t hs (x ∷ xs) rest few p o c = go (split (sameBytes (fid (length 
     go (inr q) ih = rw q ih
     go (inl q) ih =
         let p′ : row (x .name .kind) .paired ≡ true = rw (o .1) p in
-        let l : c .0 .0 < length hs = entry-lt (headOf (x .name)) hs (c .0 .0) (c .0 .1) in
+        let l : c .0 .0 < length hs = entry-lt (nameHead (x .name)) hs (c .0 .0) (c .0 .1) in
         let e : fid (length hs) ++ rest ≡ fid (c .0 .0) ++ row (x .name .kind) .rest (x .name) = bytes-true _ _ q ∙ rw (p′, c .0 .1) in
         let f = fid-same (length hs) (c .0 .0) rest (row (x .name .kind) .rest (x .name)) (omega arith) (omega arith) e in
         absurd (omega (arith, f .0))
@@ -117,11 +117,11 @@ pub record One (s : Sizes) (st : State) (pages lists : Bytes) (a : Name) (place 
 pub record Both (s : Sizes) (st : State) (pages lists : Bytes) (a : Name) (hplace : ℕ) (hspot : Spot) (place : ℕ) (spot : Spot) (g : ℕ) : Type 0 where
   pub legal : checks s a ≡ none
   pub new : newHead a (partOf st a) ≡ true
-  pub head-searched : Searched s (headsOf a) pages lists (headOf a) (Free hplace)
+  pub head-searched : Searched s (headsOf a) pages lists (nameHead a) (Free hplace)
   pub searched : Searched s (mainOf a) pages lists (keyIn st a) (Free place)
   pub head-room : length (partOf st a .heads) < s .e
   pub room : length (partOf st a .names) < s .e
-  pub head-planned : spotIn s (wordAt lists) (headsOf a) (allPages (st .space)) (length (headOf a)) ≡ hspot
+  pub head-planned : spotIn s (wordAt lists) (headsOf a) (allPages (st .space)) (length (nameHead a)) ≡ hspot
   pub head-spotted : IsSpot hspot
   pub planned : spotIn s (wordAt lists) (mainOf a) (untakenAfter (allPages (st .space)) hspot) (length (keyIn st a)) ≡ spot
   pub spotted : IsSpot spot
@@ -214,7 +214,7 @@ module _ {s : Sizes} {st : State} {pages lists : Bytes} (S : Stands s st pages l
       pair : row (a .kind) .paired ≡ true
       pair = new-paired a (partOf st a) new
 
-      head-new : entryNumber (headOf a) (partOf st a .heads) ≡ none
+      head-new : entryNumber (nameHead a) (partOf st a .heads) ≡ none
       head-new = is-none _ (and-right (row (a .kind) .paired) _ new)
 
       pub key-new : keyIn st a ≡ fid (length (partOf st a .heads)) ++ row (a .kind) .rest a
@@ -246,7 +246,7 @@ module _ {s : Sizes} {st : State} {pages lists : Bytes} (S : Stands s st pages l
 
       -- The spaces with the head.
       abbrev headed : ℕ → Space
-      headed = grownAt s (st .space) (headsOf a) (length (headOf a))
+      headed = grownAt s (st .space) (headsOf a) (length (nameHead a))
 
       space-new : spaceAfter s st a ≡ grownAt s headed (mainOf a) (length (keyIn st a))
       space-new = rw new
@@ -255,10 +255,10 @@ module _ {s : Sizes} {st : State} {pages lists : Bytes} (S : Stands s st pages l
       main-apart = head-apart (a .kind) pair
 
       headed-main : headed (mainOf a) ≡ st .space (mainOf a)
-      headed-main = grown-other s (st .space) (headsOf a) (length (headOf a)) (mainOf a) (λ e. main-apart (sym e))
+      headed-main = grown-other s (st .space) (headsOf a) (length (nameHead a)) (mainOf a) (λ e. main-apart (sym e))
 
       module _ (head-room : length (partOf st a .heads) < s .e) (main-room : length (partOf st a .names) < s .e) (hspot : Spot)
-          (head-planned : spotIn s (wordAt lists) (headsOf a) (allPages (st .space)) (length (headOf a)) ≡ hspot) where
+          (head-planned : spotIn s (wordAt lists) (headsOf a) (allPages (st .space)) (length (nameHead a)) ≡ hspot) where
         unfull-both : isFull s a (partOf st a) ≡ false
         unfull-both = rw (lt-leb (s .e) (length (partOf st a .names)) main-room, new, lt-leb (s .e) (length (partOf st a .heads)) head-room)
 
@@ -312,18 +312,18 @@ module _ {s : Sizes} {st : State} {pages lists : Bytes} (S : Stands s st pages l
   pub enter-one : {a : Name} {place : ℕ} {spot : Spot} {g : ℕ} → One s st pages lists a place spot g
       → (decide s st a ≡ enter g)
       × Stands s (extended s st a g) (pagesAfter s pages spot (keyIn st a))
-      (written s (listsAfter s lists (mainOf a) (length (partOf st a .names)) place spot (stampOf (st .blocks)) (keyIn st a)) (a .kind) (length (partOf st a .names)) g)
+      (blockWritten s (listsAfter s lists (mainOf a) (length (partOf st a .names)) place spot (stampOf (st .blocks)) (keyIn st a)) (a .kind) (length (partOf st a .names)) g)
   enter-one {a} {place} {spot} {g} O =
       let t : ℕ = stampOf (st .blocks) in
       let C = commit-one s (S .store) (st .blocks) pages lists (S .stored) (S .blocked) (mainOf a) place spot t (keyIn st a) (a .kind) g ready l (O .picked) in (
         decided-enter s st a (O .legal) (E .new) (E .roomy) g (O .picked),
         subst
             (λ (x : ℕ). Stands s (extended s st a g) (pagesAfter s pages spot (keyIn st a))
-            (written s (listsAfter s lists (mainOf a) x place spot t (keyIn st a)) (a .kind) (length (partOf st a .names)) g))
+            (blockWritten s (listsAfter s lists (mainOf a) x place spot t (keyIn st a)) (a .kind) (length (partOf st a .names)) g))
             (main-count S (a .kind) l)
             (subst
             (λ (x : ℕ). Stands s (extended s st a g) (pagesAfter s pages spot (keyIn st a))
-            (written s (listsAfter s lists (mainOf a) (S .store .count (mainOf a)) place spot t (keyIn st a)) (a .kind) x g))
+            (blockWritten s (listsAfter s lists (mainOf a) (S .store .count (mainOf a)) place spot t (keyIn st a)) (a .kind) x g))
             (next-count S (a .kind))
             (stands-added S E (added-one S a l (O .old)) _ _ (C .0) (C .1))),
       )
@@ -353,9 +353,9 @@ module _ {s : Sizes} {st : State} {pages lists : Bytes} (S : Stands s st pages l
 
   pub enter-both : {a : Name} {hplace : ℕ} {hspot : Spot} {place : ℕ} {spot : Spot} {g : ℕ} → Both s st pages lists a hplace hspot place spot g
       → (decide s st a ≡ enter g)
-      × Stands s (extended s st a g) (pagesAfter s (pagesAfter s pages hspot (headOf a)) spot (keyIn st a))
-      (written s
-      (listsAfter s (listsAfter s lists (headsOf a) (length (partOf st a .heads)) hplace hspot (stampOf (st .blocks)) (headOf a)) (mainOf a) (length (partOf st a .names))
+      × Stands s (extended s st a g) (pagesAfter s (pagesAfter s pages hspot (nameHead a)) spot (keyIn st a))
+      (blockWritten s
+      (listsAfter s (listsAfter s lists (headsOf a) (length (partOf st a .heads)) hplace hspot (stampOf (st .blocks)) (nameHead a)) (mainOf a) (length (partOf st a .names))
       place
       spot
       (stampOf (st .blocks))
@@ -365,7 +365,7 @@ module _ {s : Sizes} {st : State} {pages lists : Bytes} (S : Stands s st pages l
       g)
   enter-both {a} {hplace} {hspot} {place} {spot} {g} B =
       let t : ℕ = stampOf (st .blocks) in
-      let C = commit-both s (S .store) (st .blocks) pages lists (S .stored) (S .blocked) (headsOf a) hplace hspot (headOf a) (mainOf a) place spot (keyIn st a) t (a .kind) g
+      let C = commit-both s (S .store) (st .blocks) pages lists (S .stored) (S .blocked) (headsOf a) hplace hspot (nameHead a) (mainOf a) place spot (keyIn st a) t (a .kind) g
       (main-apart a (B .legal) (B .new))
       ready
       (main-below (a .kind))
@@ -392,9 +392,9 @@ module _ {s : Sizes} {st : State} {pages lists : Bytes} (S : Stands s st pages l
 
       -- With these counts of heads and of names, and this next number.
       After : ℕ → ℕ → ℕ → Type 0
-      After h n m = Stands s (extended s st a g) (pagesAfter s (pagesAfter s pages hspot (headOf a)) spot (keyIn st a))
-          (written s
-          (listsAfter s (listsAfter s lists (headsOf a) h hplace hspot (stampOf (st .blocks)) (headOf a)) (mainOf a) n place spot (stampOf (st .blocks)) (keyIn st a))
+      After h n m = Stands s (extended s st a g) (pagesAfter s (pagesAfter s pages hspot (nameHead a)) spot (keyIn st a))
+          (blockWritten s
+          (listsAfter s (listsAfter s lists (headsOf a) h hplace hspot (stampOf (st .blocks)) (nameHead a)) (mainOf a) n place spot (stampOf (st .blocks)) (keyIn st a))
           (a .kind)
           m
           g)
@@ -407,7 +407,7 @@ module _ {s : Sizes} {st : State} {pages lists : Bytes} (S : Stands s st pages l
         block = B .picked;
       }
 
-      ready : Ready s (S .store) pages lists (headsOf a) hplace hspot (stampOf (st .blocks)) (headOf a)
+      ready : Ready s (S .store) pages lists (headsOf a) hplace hspot (stampOf (st .blocks)) (nameHead a)
       ready = record {
         known = head-below (a .kind);
         searched = B .head-searched;

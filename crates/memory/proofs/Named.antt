@@ -15,7 +15,7 @@ use Rattle.layout.specs.Sizes.{kinds}
 use Rattle.model.specs.Names.{Name}
 use Rattle.model.specs.Kinds.{row}
 use Rattle.model.specs.State.{Stamped, State, nameIn, entryNumber}
-use Rattle.model.specs.Steps.{checks, headOf, newHead, keyOf}
+use Rattle.model.specs.Steps.{checks, nameHead, newHead, keyOf}
 use Rattle.model.specs.Keys.{keysOf}
 use Rattle.model.specs.Good.{NamesOf, Covered}
 use Rattle.model.proofs.Keys.{length-keys}
@@ -56,11 +56,11 @@ named-checked s k t i a (x ∷ xs) o e = go (split (eqb i (length xs))) (named-c
         rw (← v) (o .0, o .1)
     go (inr p) ih = ih (rw p at e)
 
-named-head : (i : ℕ) (a : Name) (hs : List Bytes) (xs : List Stamped) → Covered hs xs → nameIn i xs ≡ some a → (f : ℕ) × (entryNumber (headOf a) hs ≡ some f)
+named-head : (i : ℕ) (a : Name) (hs : List Bytes) (xs : List Stamped) → Covered hs xs → nameIn i xs ≡ some a → (f : ℕ) × (entryNumber (nameHead a) hs ≡ some f)
 named-head i a hs [] c e = let z : _≡_ {A = ℕ} 0 1 = cc in absurd (omega arith)
 named-head i a hs (x ∷ xs) c e = go (split (eqb i (length xs))) (named-head i a hs xs (c .1))
   where
-    go : Split (eqb i (length xs)) → (nameIn i xs ≡ some a → (f : ℕ) × (entryNumber (headOf a) hs ≡ some f)) → (f : ℕ) × (entryNumber (headOf a) hs ≡ some f)
+    go : Split (eqb i (length xs)) → (nameIn i xs ≡ some a → (f : ℕ) × (entryNumber (nameHead a) hs ≡ some f)) → (f : ℕ) × (entryNumber (nameHead a) hs ≡ some f)
     go (inl p) ih =
         let u : some (x .name) ≡ some a = rw p at e in
         let v : x .name ≡ a = cc in

@@ -14,7 +14,7 @@ use Rattle.slices.proofs.Bytes.{bytes-true, bytes-same}
 use Rattle.slices.proofs.Tests.{Split, split}
 use Rattle.layout.specs.declared.Sizes.{Sizes}
 use Rattle.layout.specs.Sizes.{kinds, dictionaries}
-use Rattle.bytes_index.specs.Search.{Held, Searched}
+use Rattle.bytes_index.specs.Search.{HoldsEntries, Searched}
 use Rattle.bytes_index.specs.declared.Probe.the-variants.{At, Free, Bad}
 use Rattle.model.specs.Kinds.{row}
 use Rattle.model.specs.State.{State, entryNumber}
@@ -91,7 +91,7 @@ head-apart (suc (suc (suc (suc k)))) p e = let z : _≡_ {A = ℕ} 0 1 = cc in o
 -- ---- the answers of a search
 
 module _ (s : Sizes) (st : State) (pages lists : Bytes) (S : Stands s st pages lists) (k : ℕ) (known : k < kinds) (key : Bytes) where
-  main-held : Held s (row k .mainAt) pages lists (S .store .entries (row k .mainAt))
+  main-held : HoldsEntries s (row k .mainAt) pages lists (S .store .entries (row k .mainAt))
   main-held = S .stored .dict (row k .mainAt) (main-below k) .held
 
   pub main-at : (i : ℕ) → Searched s (row k .mainAt) pages lists key (At i) → entryNumber key (keysOf (st .part k .heads) (st .part k .names)) ≡ some i
@@ -109,7 +109,7 @@ module _ (s : Sizes) (st : State) (pages lists : Bytes) (S : Stands s st pages l
   main-bad r = r .right (S .store .entries (row k .mainAt)) main-held
 
   module _ (pair : row k .paired ≡ true) where
-    head-held : Held s (row k .headsAt) pages lists (S .store .entries (row k .headsAt))
+    head-held : HoldsEntries s (row k .headsAt) pages lists (S .store .entries (row k .headsAt))
     head-held = S .stored .dict (row k .headsAt) (head-below k) .held
 
     pub head-at : (i : ℕ) → Searched s (row k .headsAt) pages lists key (At i) → entryNumber key (st .part k .heads) ≡ some i

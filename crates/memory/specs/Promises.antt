@@ -10,7 +10,7 @@ use Rattle.slices.specs.Bytes.{Bytes}
 use Rattle.slices.specs.Ranges.{within}
 use Rattle.refusals.specs.declared.Refusal.{Refusal}
 use Rattle.refusals.specs.declared.Refusal.the-variants.{Unopened, BadKind, ShortBuffer}
-use Rattle.refusals.specs.Numbers.{numberOf}
+use Rattle.refusals.specs.Numbers.{refusalNumber}
 use Rattle.layout.specs.declared.Sizes.{Sizes}
 use Rattle.layout.specs.Sizes.{kinds, pageBytes, listBytes}
 use Rattle.layout.specs.Header.{sizesIn, AlwaysUnopened}
@@ -28,8 +28,8 @@ pub record SameBeyond (s : Sizes) (pages lists pages′ lists′ : Bytes) : Type
   pub lists-beyond : drop (listBytes s) lists′ ≡ drop (listBytes s) lists
 
 -- A refusal whose number is from lo to hi.
-abbrev pub Between : ℕ → ℕ → Refusal → Type 0
-Between lo hi why = within lo hi (numberOf why) ≡ true
+abbrev pub NumberWithin : ℕ → ℕ → Refusal → Type 0
+NumberWithin lo hi why = within lo hi (refusalNumber why) ≡ true
 
 -- A number in one of the blocks that the sizes have.
 abbrev pub InBlocks : Sizes → ℕ → Type 0
@@ -49,7 +49,7 @@ pub record OpenPost (s : Sizes) (pages lists : Bytes) (r : OpenAnswer) (pages′
 
 -- What a legal name gets, whatever the memory was.
 abbrev pub AddBounded : Sizes → AddAnswer → Type 0
-AddBounded s (AddAnswer.refused why) = (why ≡ Unopened) ⊎ Between 8 10 why
+AddBounded s (AddAnswer.refused why) = (why ≡ Unopened) ⊎ NumberWithin 8 10 why
 AddBounded s (AddAnswer.fresh n) = InBlocks s n
 AddBounded s (AddAnswer.known n) = InBlocks s n
 

@@ -22,7 +22,7 @@ use Rattle.meta_dv_dict.specs.declared.Number.the-variants as N
 use Rattle.meta_dv_dict.specs.declared.Owner.the-variants as O
 use Rattle.meta_dv_dict.specs.Blocks.{Block, held, Blocks, search, start, pick}
 use Rattle.meta_dv_dict.specs.Tables.{wordOwner, ownerIn, BlocksAt}
-use Rattle.meta_dv_dict.specs.Answers.{allocated, AllocatedBelow, Allocates, heldBy, written, Globals, ownedBy, Locals}
+use Rattle.meta_dv_dict.specs.Answers.{allocated, AllocatedBelow, Allocates, heldBy, blockWritten, Globals, ownedBy, Locals}
 use Rattle.meta_dv_dict.proofs.Steps.{search-free}
 use Rattle.meta_dv_dict.proofs.Pigeons.{begun-below, picked-below}
 use Rattle.meta_dv_dict.proofs.Numbers.{in-begun}
@@ -60,12 +60,12 @@ held-below b (suc x) g e = go (split (ltb x b))
 -- ---- memory that holds a state
 
 module _ (s : Sizes) (b : Blocks) (lists : Bytes) (T : BlocksAt s b lists) where
-  begun-held : (k l : ℕ) → k < kinds → l * 2 ^ s .w < b .next k → heldBy (s .b) (wordAt lists (localAt s k l)) ≡ H.In (b .place k l)
+  begun-held : (k l : ℕ) → k < kinds → l * 2 ^ s .w < b .next k → heldBy (s .b) (wordAt lists (localAt s k l)) ≡ H.In (b .blockOf k l)
   unfolding heldBy
   begun-held k l h g =
       let low : l < s .b = begun-below (s .w) (s .b) b k l (T .sound) (T .below) g in
-      let far : b .place k l < s .b = T .below (b .place k l) k l (T .sound .there k l g) in
-      ap (heldBy (s .b)) (T .locals k l h low) ∙ rw (lt-ltb (l * 2 ^ s .w) (b .next k) g, add-one, lt-ltb (b .place k l) (s .b) far)
+      let far : b .blockOf k l < s .b = T .below (b .blockOf k l) k l (T .sound .there k l g) in
+      ap (heldBy (s .b)) (T .locals k l h low) ∙ rw (lt-ltb (l * 2 ^ s .w) (b .next k) g, add-one, lt-ltb (b .blockOf k l) (s .b) far)
 
   begins-pick : (k n : ℕ) → b .next k ≡ n → n % 2 ^ s .w ≡ 0
       → pick s b k ≡ search (ownerIn lists (blocksAt s kinds)) (start b k (n / 2 ^ s .w)) (s .b - start b k (n / 2 ^ s .w))
@@ -75,7 +75,7 @@ module _ (s : Sizes) (b : Blocks) (lists : Bytes) (T : BlocksAt s b lists) where
       rw (e, eq-eqb (n % 2 ^ s .w) zero z)
       (search-agree (b .owner) (ownerIn lists (blocksAt s kinds)) from (s .b - from) (λ i f g. sym (owner-in s b lists T i (omega arith))))
 
-  goes-on-pick : (k n : ℕ) → b .next k ≡ n → n % 2 ^ s .w ≢ 0 → pick s b k ≡ some (b .place k (n / 2 ^ s .w))
+  goes-on-pick : (k n : ℕ) → b .next k ≡ n → n % 2 ^ s .w ≢ 0 → pick s b k ≡ some (b .blockOf k (n / 2 ^ s .w))
   unfolding pick
   goes-on-pick k n e d = rw (e, ne-eqb (n % 2 ^ s .w) zero d)
 
@@ -94,7 +94,7 @@ module _ (s : Sizes) (b : Blocks) (lists : Bytes) (T : BlocksAt s b lists) where
       let p : suc x - 1 ≡ x = omega arith in
       rw p (sym (owner-in s b lists T g h) ∙ ap wordOwner e)
 
-start-next : (b : Blocks) (k l : ℕ) → l ≢ 0 → start b k l ≡ b .place k (l - 1) + (l - 1)
+start-next : (b : Blocks) (k l : ℕ) → l ≢ 0 → start b k l ≡ b .blockOf k (l - 1) + (l - 1)
 start-next b k zero d = absurd (d refl)
 start-next b k (suc l) d = let e : suc l - 1 ≡ l = omega arith in rw e
 
@@ -112,8 +112,8 @@ number-fits g size h f = let l : g ≤ 4095 = omega arith in mul-le-mul l f
 -- ---- take_block
 
 pub written-is : (s : Sizes) (lists : Bytes) (k n g size : ℕ) {at end : ℕ} {x y : Bytes} → size ≡ 2 ^ s .w → at ≡ blocksAt s k → end ≡ blocksAt s kinds
-    → x ≡ setWord lists (at + n / size) (g + 1) → y ≡ setWord x (end + g) (1 + k + 16 * (n / size)) → y ≡ written s lists k n g
-unfolding written
+    → x ≡ setWord lists (at + n / size) (g + 1) → y ≡ setWord x (end + g) (1 + k + 16 * (n / size)) → y ≡ blockWritten s lists k n g
+unfolding blockWritten
 written-is s lists k n g size {at} {end} Z p q d e =
     e ∙ ap (λ (t : Bytes). setWord t (end + g) (1 + k + 16 * (n / size))) d ∙ rw (Z, p, q)
 
@@ -139,9 +139,9 @@ module _ (s : Sizes) (lists : Bytes) (k n size : ℕ) (h : k < kinds) (Z : size 
       record {
         range = (held-below (s .b) (word (n / size)) g e, rw Z at f);
         right = λ b T p.
-            let u : H.In (b .place k (n / 2 ^ s .w)) ≡ H.In g =
+            let u : H.In (b .blockOf k (n / 2 ^ s .w)) ≡ H.In g =
             sym (begun-held s b lists T k (n / 2 ^ s .w) h (omega (arith, Pow.split n (s .w)))) ∙ e′ in
-            let v : g ≡ b .place k (n / 2 ^ s .w) = cc in
+            let v : g ≡ b .blockOf k (n / 2 ^ s .w) = cc in
             ap A.Block v ∙ ap allocated (sym (goes-on-pick s b lists T k n p d′));
       }
 
@@ -152,7 +152,7 @@ module _ (s : Sizes) (lists : Bytes) (k n size : ℕ) (h : k < kinds) (Z : size 
       record {
         range = tt;
         right = λ b T p.
-            let u : H.In (b .place k (n / 2 ^ s .w)) ≡ H.Bad =
+            let u : H.In (b .blockOf k (n / 2 ^ s .w)) ≡ H.Bad =
             sym (begun-held s b lists T k (n / 2 ^ s .w) h (omega (arith, Pow.split n (s .w)))) ∙ e′ in
             let z : _≡_ {A = ℕ} 0 1 = cc in absurd (omega arith);
       }
@@ -182,9 +182,9 @@ module _ (s : Sizes) (lists : Bytes) (k n size : ℕ) (h : k < kinds) (Z : size 
       record {
         range = rw e′ (search-below (ownerIn lists (blocksAt s kinds)) from (s .b) (n / 2 ^ s .w) _ refl (rw Z at f));
         right = λ b T p.
-            let u : H.In (b .place k (n / 2 ^ s .w - 1)) ≡ H.In g =
+            let u : H.In (b .blockOf k (n / 2 ^ s .w - 1)) ≡ H.In g =
             sym (begun-held s b lists T k (n / 2 ^ s .w - 1) h (rw p (before-begun (s .w) n l′))) ∙ o′ in
-            let v : b .place k (n / 2 ^ s .w - 1) ≡ g = cc in
+            let v : b .blockOf k (n / 2 ^ s .w - 1) ≡ g = cc in
             let q : start b k (n / 2 ^ s .w) ≡ from = start-next b k (n / 2 ^ s .w) l′ ∙ rw v in
             e′ ∙ ap allocated (sym (rw q at (begins-pick s b lists T k n p z′)));
       }
@@ -196,7 +196,7 @@ module _ (s : Sizes) (lists : Bytes) (k n size : ℕ) (h : k < kinds) (Z : size 
       record {
         range = tt;
         right = λ b T p.
-            let u : H.In (b .place k (n / 2 ^ s .w - 1)) ≡ H.Bad =
+            let u : H.In (b .blockOf k (n / 2 ^ s .w - 1)) ≡ H.Bad =
             sym (begun-held s b lists T k (n / 2 ^ s .w - 1) h (rw p (before-begun (s .w) n l′))) ∙ e′ in
             let z : _≡_ {A = ℕ} 0 1 = cc in absurd (omega arith);
       }
@@ -217,7 +217,7 @@ module _ (s : Sizes) (lists : Bytes) (k n size : ℕ) (h : k < kinds) (Z : size 
       record {
         range = tt;
         right = λ b T p.
-            let u : H.In (b .place k (n / 2 ^ s .w)) ≡ H.Bad =
+            let u : H.In (b .blockOf k (n / 2 ^ s .w)) ≡ H.Bad =
             sym (begun-held s b lists T k (n / 2 ^ s .w) h (in-begun (s .w) n _ p)) ∙ e′ in
             let z : _≡_ {A = ℕ} 0 1 = cc in absurd (omega arith);
       }
@@ -229,9 +229,9 @@ module _ (s : Sizes) (lists : Bytes) (k n size : ℕ) (h : k < kinds) (Z : size 
       record {
         range = rw (Z, Pow.high g (s .w) lt) (held-below (s .b) (word (n / size)) g e);
         right = λ b T p.
-            let u : H.In (b .place k (n / 2 ^ s .w)) ≡ H.In g =
+            let u : H.In (b .blockOf k (n / 2 ^ s .w)) ≡ H.In g =
             sym (begun-held s b lists T k (n / 2 ^ s .w) h (in-begun (s .w) n _ p)) ∙ e′ in
-            let v : g ≡ b .place k (n / 2 ^ s .w) = cc in
+            let v : g ≡ b .blockOf k (n / 2 ^ s .w) = cc in
             rw (Z, v);
       }
 

@@ -19,8 +19,8 @@ in-begun w n m h = omega (arith, Pow.split n w)
 pub numbers-apart : (w : ℕ) (b : Blocks) → Sound w b → (k n j m : ℕ) → n < b .next k → m < b .next j
     → global w b k n ≡ global w b j m → (k ≡ j) × (n ≡ m)
 numbers-apart w b S k n j m h g e =
-    let pk : ℕ = b .place k (n / 2 ^ w) in
-    let pj : ℕ = b .place j (m / 2 ^ w) in
+    let pk : ℕ = b .blockOf k (n / 2 ^ w) in
+    let pj : ℕ = b .blockOf j (m / 2 ^ w) in
     let ln : n % 2 ^ w < 2 ^ w = mod-lt n (Pow.pow-pos w) in
     let lm : m % 2 ^ w < 2 ^ w = mod-lt m (Pow.pow-pos w) in
     let hi : pk ≡ pj = sym (Pow.high pk w ln) ∙ ap (λ (x : ℕ). x / 2 ^ w) e ∙ Pow.high pj w lm in
@@ -35,7 +35,7 @@ numbers-apart w b S k n j m h g e =
 pub to-local : (w : ℕ) (b : Blocks) → Sound w b → (k n : ℕ) → n < b .next k
     → (b .owner (global w b k n / 2 ^ w) ≡ held k (n / 2 ^ w)) × (n / 2 ^ w * 2 ^ w + global w b k n % 2 ^ w ≡ n)
 to-local w b S k n h =
-    let p : ℕ = b .place k (n / 2 ^ w) in
+    let p : ℕ = b .blockOf k (n / 2 ^ w) in
     let lt : n % 2 ^ w < 2 ^ w = mod-lt n (Pow.pow-pos w) in
     (rw (Pow.high p w lt) (S .there k (n / 2 ^ w) (in-begun w n _ h)), rw (Pow.low p w lt) (Pow.split n w))
 

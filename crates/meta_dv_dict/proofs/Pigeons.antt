@@ -49,10 +49,10 @@ pigeons (suc m) (suc n) f low one =
 -- A local block that is begun has a word.
 pub begun-below : (w n : ℕ) (b : Blocks) (k l : ℕ) → Sound w b → Below n b → l * 2 ^ w < b .next k → l < n
 begun-below w n b k l S low h =
-    let own : (i : ℕ) → i < suc l → b .owner (b .place k i) ≡ held k i =
+    let own : (i : ℕ) → i < suc l → b .owner (b .blockOf k i) ≡ held k i =
     λ i g. S .there k i (omega (arith, mul-le-mul-right {m = i} {n = l} (2 ^ w) (omega arith))) in
-    pigeons n (suc l) (b .place k)
-    (λ i g. low (b .place k i) k i (own i g))
+    pigeons n (suc l) (b .blockOf k)
+    (λ i g. low (b .blockOf k i) k i (own i g))
     (λ i j g f e. let p : held k i ≡ held k j = sym (own i g) ∙ ap (b .owner) e ∙ own j f in cc)
 
 -- So has the one that a block is picked for.

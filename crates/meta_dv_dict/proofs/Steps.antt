@@ -17,42 +17,42 @@ use Rattle.meta_dv_dict.specs.Sound.{Sound, Below, May, begins, goes-on}
 
 module _ (w : ℕ) (b : Blocks) (S : Sound w b) (k g : ℕ) where
   -- A block held by another local block is not g.
-  not-g : May w b k g → (j l : ℕ) → l * 2 ^ w < b .next j → (j ≡ k → l ≡ b .next k / 2 ^ w → ⊥) → g ≢ b .place j l
+  not-g : May w b k g → (j l : ℕ) → l * 2 ^ w < b .next j → (j ≡ k → l ≡ b .next k / 2 ^ w → ⊥) → g ≢ b .blockOf j l
   not-g (begins z f) j l h d e =
-      let p : b .owner (b .place j l) ≡ held j l = S .there j l h in
+      let p : b .owner (b .blockOf j l) ≡ held j l = S .there j l h in
       let q : free ≡ held j l = sym f ∙ ap (b .owner) e ∙ p in
       let z : _≡_ {A = ℕ} 0 1 = cc in absurd (omega arith)
   not-g (goes-on z f) j l h d e =
-      let p : b .owner (b .place j l) ≡ held j l = S .there j l h in
+      let p : b .owner (b .blockOf j l) ≡ held j l = S .there j l h in
       let u : b .next k / 2 ^ w * 2 ^ w < b .next k = omega (arith, Pow.split (b .next k) w) in
-      let r : b .owner (b .place k (b .next k / 2 ^ w)) ≡ held k (b .next k / 2 ^ w) = S .there k (b .next k / 2 ^ w) u in
+      let r : b .owner (b .blockOf k (b .next k / 2 ^ w)) ≡ held k (b .next k / 2 ^ w) = S .there k (b .next k / 2 ^ w) u in
       let q : held k (b .next k / 2 ^ w) ≡ held j l = sym r ∙ ap (b .owner) (f ∙ e) ∙ p in
       let v : j ≡ k = cc in
       let x : l ≡ b .next k / 2 ^ w = cc in
       d v x
 
-  there′ : May w b k g → (j l : ℕ) → l * 2 ^ w < took w b k g .next j → took w b k g .owner (took w b k g .place j l) ≡ held j l
+  there′ : May w b k g → (j l : ℕ) → l * 2 ^ w < took w b k g .next j → took w b k g .owner (took w b k g .blockOf j l) ≡ held j l
   there′ m j l h = go (ℕ-discrete k j)
     where
-      go : Dec (k ≡ j) → took w b k g .owner (took w b k g .place j l) ≡ held j l
+      go : Dec (k ≡ j) → took w b k g .owner (took w b k g .blockOf j l) ≡ held j l
       go (no q) =
           let h′ : l * 2 ^ w < b .next j = rw (ne-eqb k j q) at h in
-          rw (ne-eqb k j q, ne-eqb g (b .place j l) (not-g m j l h′ (λ e. absurd (q (sym e))))) (S .there j l h′)
+          rw (ne-eqb k j q, ne-eqb g (b .blockOf j l) (not-g m j l h′ (λ e. absurd (q (sym e))))) (S .there j l h′)
       go (yes q) = inner (ℕ-discrete (b .next k / 2 ^ w) l)
         where
-          inner : Dec (b .next k / 2 ^ w ≡ l) → took w b k g .owner (took w b k g .place j l) ≡ held j l
+          inner : Dec (b .next k / 2 ^ w ≡ l) → took w b k g .owner (took w b k g .blockOf j l) ≡ held j l
           inner (yes x) = rw (eq-eqb k j q, eq-eqb (b .next k / 2 ^ w) l x, eq-eqb g g refl) (cc)
           inner (no x) =
               let h′ : l * 2 ^ w < suc (b .next k) = rw (eq-eqb k j q) at h in
               let y : l * 2 ^ w ≢ b .next k = λ e. x (rw (← e) (mul-div-cancel l (Pow.pow-pos w))) in
               let h2 : l * 2 ^ w < b .next k = omega arith in
-              let ne : g ≢ b .place k l = not-g m k l h2 (λ e1 e2. x (sym e2)) in
-              rw (eq-eqb k j q, ne-eqb (b .next k / 2 ^ w) l x, ne-eqb g (b .place k l) ne) (S .there k l h2 ∙ ap (λ (i : ℕ). held i l) q)
+              let ne : g ≢ b .blockOf k l = not-g m k l h2 (λ e1 e2. x (sym e2)) in
+              rw (eq-eqb k j q, ne-eqb (b .next k / 2 ^ w) l x, ne-eqb g (b .blockOf k l) ne) (S .there k l h2 ∙ ap (λ (i : ℕ). held i l) q)
 
-  back′ : May w b k g → (i j l : ℕ) → took w b k g .owner i ≡ held j l → (l * 2 ^ w < took w b k g .next j) × (took w b k g .place j l ≡ i)
+  back′ : May w b k g → (i j l : ℕ) → took w b k g .owner i ≡ held j l → (l * 2 ^ w < took w b k g .next j) × (took w b k g .blockOf j l ≡ i)
   back′ m i j l h = go (ℕ-discrete g i)
     where
-      go : Dec (g ≡ i) → (l * 2 ^ w < took w b k g .next j) × (took w b k g .place j l ≡ i)
+      go : Dec (g ≡ i) → (l * 2 ^ w < took w b k g .next j) × (took w b k g .blockOf j l ≡ i)
       go (yes q) =
           let e : held k (b .next k / 2 ^ w) ≡ held j l = rw (eq-eqb g i q) at h in
           let u : k ≡ j = cc in
@@ -63,18 +63,18 @@ module _ (w : ℕ) (b : Blocks) (S : Sound w b) (k g : ℕ) where
           let r = S .back i j l e in
           rest (r .0) (r .1) (ℕ-discrete k j) (ℕ-discrete (b .next k / 2 ^ w) l) m
         where
-          rest : l * 2 ^ w < b .next j → b .place j l ≡ i → Dec (k ≡ j) → Dec (b .next k / 2 ^ w ≡ l) → May w b k g
-              → (l * 2 ^ w < took w b k g .next j) × (took w b k g .place j l ≡ i)
+          rest : l * 2 ^ w < b .next j → b .blockOf j l ≡ i → Dec (k ≡ j) → Dec (b .next k / 2 ^ w ≡ l) → May w b k g
+              → (l * 2 ^ w < took w b k g .next j) × (took w b k g .blockOf j l ≡ i)
           rest a c (no x) y m = (rw (ne-eqb k j x) a, rw (ne-eqb k j x) c)
           rest a c (yes x) (no y) m =
               let a′ : l * 2 ^ w < b .next k = rw x a in
-              (rw (eq-eqb k j x) (omega arith), rw (eq-eqb k j x, ne-eqb (b .next k / 2 ^ w) l y) (ap (λ (t : ℕ). b .place t l) x ∙ c))
+              (rw (eq-eqb k j x) (omega arith), rw (eq-eqb k j x, ne-eqb (b .next k / 2 ^ w) l y) (ap (λ (t : ℕ). b .blockOf t l) x ∙ c))
           rest a c (yes x) (yes y) (begins z f) =
               let a′ : l * 2 ^ w < b .next k = rw x a in
               let a2 : b .next k / 2 ^ w * 2 ^ w < b .next k = rw y a′ in
               absurd (omega (arith, Pow.split (b .next k) w))
           rest a c (yes x) (yes y) (goes-on z f) =
-              absurd (q (sym f ∙ ap (λ (t : ℕ). b .place k t) y ∙ ap (λ (t : ℕ). b .place t l) x ∙ c))
+              absurd (q (sym f ∙ ap (λ (t : ℕ). b .blockOf k t) y ∙ ap (λ (t : ℕ). b .blockOf t l) x ∙ c))
 
   pub took-sound : May w b k g → Sound w (took w b k g)
   took-sound m = record { there = there′ m; back = back′ m }
@@ -95,18 +95,18 @@ search-free t g (suc n) i e = go (t g) refl (search-free t (suc g) n i)
         (r .0, omega (arith, r .1), omega (arith, r .2))
 
 -- A local block in use stays where it is.
-pub stable : (w : ℕ) (b : Blocks) (k g : ℕ) → May w b k g → (j l : ℕ) → l * 2 ^ w < b .next j → took w b k g .place j l ≡ b .place j l
+pub stable : (w : ℕ) (b : Blocks) (k g : ℕ) → May w b k g → (j l : ℕ) → l * 2 ^ w < b .next j → took w b k g .blockOf j l ≡ b .blockOf j l
 stable w b k g m j l h = go (ℕ-discrete k j) (ℕ-discrete (b .next k / 2 ^ w) l) m
   where
-    go : Dec (k ≡ j) → Dec (b .next k / 2 ^ w ≡ l) → May w b k g → took w b k g .place j l ≡ b .place j l
+    go : Dec (k ≡ j) → Dec (b .next k / 2 ^ w ≡ l) → May w b k g → took w b k g .blockOf j l ≡ b .blockOf j l
     go (no q) d m = rw (ne-eqb k j q)
-    go (yes q) (no x) m = rw (eq-eqb k j q, ne-eqb (b .next k / 2 ^ w) l x) (ap (λ (t : ℕ). b .place t l) q)
+    go (yes q) (no x) m = rw (eq-eqb k j q, ne-eqb (b .next k / 2 ^ w) l x) (ap (λ (t : ℕ). b .blockOf t l) q)
     go (yes q) (yes x) (begins z f) =
         let h′ : l * 2 ^ w < b .next k = rw q h in
         let h2 : b .next k / 2 ^ w * 2 ^ w < b .next k = rw x h′ in
         absurd (omega (arith, Pow.split (b .next k) w))
     go (yes q) (yes x) (goes-on z f) =
-        rw (eq-eqb k j q, eq-eqb (b .next k / 2 ^ w) l x) (sym f ∙ ap (λ (t : ℕ). b .place k t) x ∙ ap (λ (t : ℕ). b .place t l) q)
+        rw (eq-eqb k j q, eq-eqb (b .next k / 2 ^ w) l x) (sym f ∙ ap (λ (t : ℕ). b .blockOf k t) x ∙ ap (λ (t : ℕ). b .blockOf t l) q)
 
 -- What the rule picks may be taken, and is below B.
 pub picked : (s : Sizes) (b : Blocks) (k g : ℕ) → Sound (s .w) b → Below (s .b) b → pick s b k ≡ some g
@@ -121,11 +121,11 @@ picked s b k g S low e = go (split (eqb (b .next k % 2 ^ s .w) zero))
         let r = search-free (b .owner) f (s .b - f) g q in
         (begins (eqb-true (b .next k % 2 ^ s .w) zero p) (r .0), omega (arith, r .1, r .2))
     go (inr p) =
-        let q : some (b .place k (b .next k / 2 ^ s .w)) ≡ some g = rw p at e in
-        let u : b .place k (b .next k / 2 ^ s .w) ≡ g = cc in
+        let q : some (b .blockOf k (b .next k / 2 ^ s .w)) ≡ some g = rw p at e in
+        let u : b .blockOf k (b .next k / 2 ^ s .w) ≡ g = cc in
         let z : b .next k % 2 ^ s .w ≢ 0 = eqb-false (b .next k % 2 ^ s .w) zero p in
         let h : b .next k / 2 ^ s .w * 2 ^ s .w < b .next k = omega (arith, Pow.split (b .next k) (s .w)) in
-        (goes-on z u, rw (← u) (low (b .place k (b .next k / 2 ^ s .w)) k (b .next k / 2 ^ s .w) (S .there k (b .next k / 2 ^ s .w) h)))
+        (goes-on z u, rw (← u) (low (b .blockOf k (b .next k / 2 ^ s .w)) k (b .next k / 2 ^ s .w) (S .there k (b .next k / 2 ^ s .w) h)))
 
 -- ---- one step of the rule
 

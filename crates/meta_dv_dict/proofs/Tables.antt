@@ -23,7 +23,7 @@ use Rattle.layout.proofs.Places.{blocks-below, blocks-from, blocks-end, list-by
 use Rattle.layout.proofs.Opened.{opened-zero}
 use Rattle.meta_dv_dict.specs.Blocks.{Block, free, held, Blocks, noBlocks, pick, took}
 use Rattle.meta_dv_dict.specs.Tables.{localWord, ownerWord, wordOwner, ownerIn, BlocksAt}
-use Rattle.meta_dv_dict.specs.Answers.{written}
+use Rattle.meta_dv_dict.specs.Answers.{blockWritten}
 use Rattle.meta_dv_dict.proofs.Steps.{step-sound, picked, not-held, opened-sound}
 use Rattle.meta_dv_dict.proofs.Pigeons.{picked-below}
 
@@ -173,7 +173,7 @@ module _ (s : Sizes) (b : Blocks) (lists : Bytes) (k g l : ℕ) (R : InRange s) 
       omega arith
   kind-step i j m e (no q) = T .kind i j m (rw (ne-eqb g i q) at e)
 
-  unused-step : (j m : ℕ) → took (s .w) b k g .next j ≤ m * 2 ^ s .w → Dec (k ≡ j) → took (s .w) b k g .place j m ≡ zero
+  unused-step : (j m : ℕ) → took (s .w) b k g .next j ≤ m * 2 ^ s .w → Dec (k ≡ j) → took (s .w) b k g .blockOf j m ≡ zero
   unused-step j m f (no p) = let z : b .next j ≤ m * 2 ^ s .w = rw (ne-eqb k j p) at f in rw (ne-eqb k j p) (T .unused j m z)
   unused-step j m f (yes p) =
       let z : suc (b .next k) ≤ m * 2 ^ s .w = rw (eq-eqb k j p) at f in
@@ -196,6 +196,6 @@ module _ (s : Sizes) (b : Blocks) (lists : Bytes) (k g l : ℕ) (R : InRange s) 
 
 -- What `take_block` writes makes the memory hold the state after the step.
 pub took-blocks : (s : Sizes) (b : Blocks) (lists : Bytes) (k g : ℕ) → InRange s → listBytes s ≤ length lists → BlocksAt s b lists
-    → k < kinds → pick s b k ≡ some g → BlocksAt s (took (s .w) b k g) (written s lists k (b .next k) g)
-unfolding written
+    → k < kinds → pick s b k ≡ some g → BlocksAt s (took (s .w) b k g) (blockWritten s lists k (b .next k) g)
+unfolding blockWritten
 took-blocks s b lists k g R F T h e = step-blocks s b lists k g (b .next k / 2 ^ s .w) R F T h e refl

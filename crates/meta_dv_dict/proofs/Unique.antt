@@ -20,7 +20,7 @@ no-kind s b lists T k h = go (split (ltb 0 (b .next k)))
     go : Split (ltb 0 (b .next k)) → b .next k ≡ 0
     go (inl p) =
         let q : 0 < b .next k = ltb-true 0 (b .next k) p in
-        absurd (omega (arith, T .kind (b .place k 0) k 0 (T .sound .there k 0 (omega arith))))
+        absurd (omega (arith, T .kind (b .blockOf k 0) k 0 (T .sound .there k 0 (omega arith))))
     go (inr p) = omega (arith, ltb-false 0 (b .next k) p)
 
 module _ (s : Sizes) (lists : Bytes) (x y : Blocks) (T : BlocksAt s x lists) (U : BlocksAt s y lists)
@@ -40,16 +40,16 @@ module _ (s : Sizes) (lists : Bytes) (x y : Blocks) (T : BlocksAt s x lists) (U 
       go (inr p) = owner-past s x lists T g (ltb-false g (s .b) p) ∙ sym (owner-past s y lists U g (ltb-false g (s .b) p))
 
   -- A place follows from the owners.
-  places : (k l : ℕ) → x .place k l ≡ y .place k l
+  places : (k l : ℕ) → x .blockOf k l ≡ y .blockOf k l
   places k l = go (split (ltb (l * 2 ^ s .w) (x .next k)))
     where
-      go : Split (ltb (l * 2 ^ s .w) (x .next k)) → x .place k l ≡ y .place k l
+      go : Split (ltb (l * 2 ^ s .w) (x .next k)) → x .blockOf k l ≡ y .blockOf k l
       go (inl p) =
           let h : l * 2 ^ s .w < x .next k = ltb-true _ _ p in
-          sym (U .sound .back (x .place k l) k l (sym (owners (x .place k l)) ∙ T .sound .there k l h) .1)
+          sym (U .sound .back (x .blockOf k l) k l (sym (owners (x .blockOf k l)) ∙ T .sound .there k l h) .1)
       go (inr p) =
           let h : x .next k ≤ l * 2 ^ s .w = ltb-false _ _ p in
           T .unused k l h ∙ sym (U .unused k l (rw (nexts k) at h))
 
   pub blocks-unique : x ≡ y
-  blocks-unique = λ i. record { owner = λ g. owners g i; place = λ k l. places k l i; next = λ k. nexts k i }
+  blocks-unique = λ i. record { owner = λ g. owners g i; blockOf = λ k l. places k l i; next = λ k. nexts k i }

@@ -43,8 +43,8 @@ heldBy b (suc g) = cond (ltb g b) (H.In g) H.Bad
 
 -- ---- take_block: the block g for the kind k's local number n
 
-unfoldable pub written : Sizes → Bytes → ℕ → ℕ → ℕ → Bytes
-written s lists k n g =
+unfoldable pub blockWritten : Sizes → Bytes → ℕ → ℕ → ℕ → Bytes
+blockWritten s lists k n g =
     setWord (setWord lists (localAt s k (n / 2 ^ s .w)) (g + 1)) (globalAt s g) (blockWord k (n / 2 ^ s .w))
 
 -- ---- local_to_global

@@ -15,11 +15,11 @@ pub data Block : Type 0 where
 -- The owner of a global block; the global block of a kind's local block; a kind's next local number.
 pub record Blocks : Type 0 where
   pub owner : ℕ → Block
-  pub place : ℕ → ℕ → ℕ
+  pub blockOf : ℕ → ℕ → ℕ
   pub next : ℕ → ℕ
 
 abbrev pub noBlocks : Blocks
-noBlocks = record { owner = λ g. free; place = λ k l. zero; next = λ k. zero }
+noBlocks = record { owner = λ g. free; blockOf = λ k l. zero; next = λ k. zero }
 
 abbrev pub ifFree : Block → ℕ → Option ℕ → Option ℕ
 ifFree free g o = some g
@@ -33,26 +33,26 @@ search t g (suc n) = ifFree (t g) g (search t (suc g) n)
 -- Where the search for the kind k's local block l starts: block 0 for the first; g + l for the next after local block l, held in g.
 abbrev pub start : Blocks → ℕ → ℕ → ℕ
 start b k zero = zero
-start b k (suc l) = b .place k l + l
+start b k (suc l) = b .blockOf k l + l
 
 -- The block of the kind k's next number: where a local block begins, the first free one below B; else the one that it is in.
 unfoldable pub pick : Sizes → Blocks → ℕ → Option ℕ
 pick s b k =
     cond (eqb (b .next k % 2 ^ s .w) zero)
     (search (b .owner) (start b k (b .next k / 2 ^ s .w)) (s .b - start b k (b .next k / 2 ^ s .w)))
-    (some (b .place k (b .next k / 2 ^ s .w)))
+    (some (b .blockOf k (b .next k / 2 ^ s .w)))
 
 -- The kind k's next number is given, in the block g. Where the local block goes on, this writes what is there.
 abbrev pub took : ℕ → Blocks → ℕ → ℕ → Blocks
 took w b k g = record {
   owner = upd (b .owner) g (held k (b .next k / 2 ^ w));
-  place = upd (b .place) k (upd (b .place k) (b .next k / 2 ^ w) g);
+  blockOf = upd (b .blockOf) k (upd (b .blockOf k) (b .next k / 2 ^ w) g);
   next = upd (b .next) k (suc (b .next k));
 }
 
 -- The global number of the kind k's local number n.
 abbrev pub global : ℕ → Blocks → ℕ → ℕ → ℕ
-global w b k n = b .place k (n / 2 ^ w) * 2 ^ w + n % 2 ^ w
+global w b k n = b .blockOf k (n / 2 ^ w) * 2 ^ w + n % 2 ^ w
 
 -- The number that a fresh name of the kind k gets, if its block is g.
 abbrev pub newest : ℕ → Blocks → ℕ → ℕ → ℕ

@@ -13,9 +13,9 @@ pub record Grant : Type 0 where
   pub block : ℕ
 
 -- How many names of the kind k there are: the local number of its next one.
-abbrev pub howMany : ℕ → List Grant → ℕ
-howMany k [] = zero
-howMany k (x ∷ xs) = cond (eqb (x .kind) k) (suc (howMany k xs)) (howMany k xs)
+abbrev pub grantsOf : ℕ → List Grant → ℕ
+grantsOf k [] = zero
+grantsOf k (x ∷ xs) = cond (eqb (x .kind) k) (suc (grantsOf k xs)) (grantsOf k xs)
 
 abbrev pub taken : List Grant → ℕ → Bool
 taken [] g = false
@@ -46,11 +46,11 @@ blockFor s xs k n =
 -- One name more, of the kind k; a refused one takes no block.
 abbrev pub grantedIn : Sizes → List Grant → ℕ → Option ℕ → List Grant
 grantedIn s xs k none = xs
-grantedIn s xs k (some g) = record { kind = k; local = howMany k xs / 2 ^ s .w; block = g } ∷ xs
+grantedIn s xs k (some g) = record { kind = k; local = grantsOf k xs / 2 ^ s .w; block = g } ∷ xs
 
 abbrev pub granted : Sizes → List ℕ → List Grant
 granted s [] = []
-granted s (k ∷ ks) = grantedIn s (granted s ks) k (blockFor s (granted s ks) k (howMany k (granted s ks)))
+granted s (k ∷ ks) = grantedIn s (granted s ks) k (blockFor s (granted s ks) k (grantsOf k (granted s ks)))
 
 -- "The global number is the global block × 2^w + n modulo 2^w."
 abbrev pub numberIn : Sizes → ℕ → Option ℕ → Option ℕ
@@ -59,4 +59,4 @@ numberIn s n (some g) = some (g * 2 ^ s .w + n % 2 ^ s .w)
 
 -- The number that a fresh name of the kind k gets after fresh names of the kinds ks, newest first; none: no block is free from where the search starts.
 unfoldable pub blockRule : Sizes → List ℕ → ℕ → Option ℕ
-blockRule s ks k = numberIn s (howMany k (granted s ks)) (blockFor s (granted s ks) k (howMany k (granted s ks)))
+blockRule s ks k = numberIn s (grantsOf k (granted s ks)) (blockFor s (granted s ks) k (grantsOf k (granted s ks)))

@@ -6,8 +6,8 @@ use Rattle.meta_dv_dict.specs.Blocks.{free, held, Blocks}
 
 -- Both tables of blocks name one another.
 pub record Sound (w : ℕ) (b : Blocks) : Type 0 where
-  pub there : (k l : ℕ) → l * 2 ^ w < b .next k → b .owner (b .place k l) ≡ held k l
-  pub back : (g k l : ℕ) → b .owner g ≡ held k l → (l * 2 ^ w < b .next k) × (b .place k l ≡ g)
+  pub there : (k l : ℕ) → l * 2 ^ w < b .next k → b .owner (b .blockOf k l) ≡ held k l
+  pub back : (g k l : ℕ) → b .owner g ≡ held k l → (l * 2 ^ w < b .next k) × (b .blockOf k l ≡ g)
 
 -- Every held block is below n.
 abbrev pub Below : ℕ → Blocks → Type 0
@@ -16,4 +16,4 @@ Below n b = (g k l : ℕ) → b .owner g ≡ held k l → g < n
 -- The block g may be taken for the kind k's next local number: free where a local block begins, else the one that holds it.
 pub data May (w : ℕ) (b : Blocks) (k g : ℕ) : Type 0 where
   begins : b .next k % 2 ^ w ≡ 0 → b .owner g ≡ free → May w b k g
-  goes-on : b .next k % 2 ^ w ≢ 0 → b .place k (b .next k / 2 ^ w) ≡ g → May w b k g
+  goes-on : b .next k % 2 ^ w ≢ 0 → b .blockOf k (b .next k / 2 ^ w) ≡ g → May w b k g

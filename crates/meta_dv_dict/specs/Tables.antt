@@ -13,7 +13,7 @@ use Rattle.meta_dv_dict.specs.Sound.{Sound, Below}
 
 -- The word of the kind k's local block l: 0 where it is not begun.
 abbrev pub localWord : ℕ → Blocks → ℕ → ℕ → ℕ
-localWord w b k l = cond (ltb (l * 2 ^ w) (b .next k)) (b .place k l + 1) 0
+localWord w b k l = cond (ltb (l * 2 ^ w) (b .next k)) (b .blockOf k l + 1) 0
 
 -- The word of a global block, and what a word says of its block.
 abbrev pub ownerWord : Block → ℕ
@@ -35,4 +35,4 @@ pub record BlocksAt (s : Sizes) (b : Blocks) (lists : Bytes) : Type 0 where
   pub below : Below (s .b) b
   pub kind : (g k l : ℕ) → b .owner g ≡ held k l → k < kinds
   -- What no memory holds is zero, so that with the kinds' counts one memory holds one state.
-  pub unused : (k l : ℕ) → b .next k ≤ l * 2 ^ s .w → b .place k l ≡ zero
+  pub unused : (k l : ℕ) → b .next k ≤ l * 2 ^ s .w → b .blockOf k l ≡ zero

@@ -8,7 +8,7 @@ ghost use Rattle.layout.specs.Sizes.{InRange, kinds, listBytes};
 ghost use Rattle.layout.specs.Fields.{blocksAt, localAt};
 ghost use Rattle.meta_dv_dict.specs.Blocks.{search};
 ghost use Rattle.meta_dv_dict.specs.Tables.{ownerIn};
-ghost use Rattle.meta_dv_dict.specs.Answers.{allocated, Allocates, heldBy, written, Globals, Locals};
+ghost use Rattle.meta_dv_dict.specs.Answers.{allocated, Allocates, heldBy, blockWritten, Globals, Locals};
 use layout::KINDS;
 use layout::OWNERS;
 use layout::Sizes;
@@ -104,7 +104,7 @@ pub fn allocate_block(lists: &[u8], s: Sizes, k: usize, local: LocalId) -> Alloc
 // Writes that the kind k's local number is in the block g.
 pub fn take_block(lists: &mut [u8], s: Sizes, k: usize, local: LocalId, g: usize)
     requires { ⌜ InRange s × (listBytes s ≤ length (now lists)) × (k < kinds) × (local .0 / 2 ^ s .w < s .b) × (g < s .b) ⌝ }
-    ensures { λ _. ⌜ now (lists .exit) ≡ written s (now (lists .entry)) k (local .0) g ⌝ }
+    ensures { λ _. ⌜ now (lists .exit) ≡ blockWritten s (now (lists .entry)) k (local .0) g ⌝ }
 {
     let n = local.0;
     let l = n / block_size(s);

@@ -17,7 +17,7 @@ use Rattle.model.specs.Answers.{AddAnswer}
 use Rattle.model.specs.State.{State, numberOf}
 use Rattle.model.specs.Steps.{Decision, refuse, found, enter, decide, extended, answerBy, stateBy, addAnswer, afterAdd}
 use Rattle.model.specs.Good.{Good}
-use Rattle.model.specs.Calls.{Fresh, Gave, ifFresh, howMany}
+use Rattle.model.specs.Calls.{SaidFresh, Gave, ifFresh, howMany}
 use Rattle.model.proofs.Names.{name-true, name-same}
 use Rattle.model.proofs.Numbers.{number-new}
 use Rattle.model.proofs.Decide.{entering, finding}
@@ -47,17 +47,17 @@ module _ (s : Sizes) (st : State) (G : Good s st) (b : Name) where
 
   module _ (r : AddAnswer) (right : r ≡ addAnswer s st b) where
     -- was there before or came with this add,
-    pub came : (a : Name) (n : ℕ) → numberOf s (afterAdd s st b) a ≡ some n → ((a ≡ b) × Fresh r n) ⊎ (numberOf s st a ≡ some n)
+    pub came : (a : Name) (n : ℕ) → numberOf s (afterAdd s st b) a ≡ some n → ((a ≡ b) × SaidFresh r n) ⊎ (numberOf s st a ≡ some n)
     came a n h = go (decide s st b) refl right h
       where
         go : (d : Decision) → decide s st b ≡ d → r ≡ answerBy s st b d → numberOf s (stateBy s st b d) a ≡ some n
-            → ((a ≡ b) × Fresh r n) ⊎ (numberOf s st a ≡ some n)
+            → ((a ≡ b) × SaidFresh r n) ⊎ (numberOf s st a ≡ some n)
         go (refuse i) e q h = inr h
         go (found i) e q h = inr h
         go (enter g) e q h = other (split (sameName a b)) (sym (new-is g e a) ∙ h)
           where
             other : Split (sameName a b) → cond (sameName a b) (some (newest (s .w) (st .blocks) (b .kind) g)) (numberOf s st a) ≡ some n
-                → ((a ≡ b) × Fresh r n) ⊎ (numberOf s st a ≡ some n)
+                → ((a ≡ b) × SaidFresh r n) ⊎ (numberOf s st a ≡ some n)
             other (inl p) k =
                 let u : some (newest (s .w) (st .blocks) (b .kind) g) ≡ some n = rw p at k in
                 let v : newest (s .w) (st .blocks) (b .kind) g ≡ n = cc in
@@ -87,7 +87,7 @@ module _ (s : Sizes) (st : State) (G : Good s st) (b : Name) where
         go (found i) e q = let u : i ≡ n = cc in finding s st b i e ∙ ap some u
         go (enter g) e q = let z : _≡_ {A = ℕ} 0 1 = cc in absurd (omega arith)
 
-    pub was-new : (n : ℕ) → Fresh r n → (numberOf s st b ≡ none) × (numberPicked (s .w) (st .blocks) (b .kind) (pick s (st .blocks) (b .kind)) ≡ some n)
+    pub was-new : (n : ℕ) → SaidFresh r n → (numberOf s st b ≡ none) × (numberPicked (s .w) (st .blocks) (b .kind) (pick s (st .blocks) (b .kind)) ≡ some n)
     was-new n k = go (decide s st b) refl right
       where
         go : (d : Decision) → decide s st b ≡ d → r ≡ answerBy s st b d

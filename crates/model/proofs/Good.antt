@@ -21,7 +21,7 @@ use Rattle.meta_dv_dict.specs.Sound.{Sound, Below, May}
 use Rattle.meta_dv_dict.proofs.Steps.{picked, step-sound, opened-sound}
 use Rattle.model.specs.Names.{Name}
 use Rattle.model.specs.State.{State, opened, stampOf, localOf, globalOf, numberOf}
-use Rattle.model.specs.Steps.{headOf, keyOf, isFull, spaceAfter, room, Decision, refuse, found, enter, decide, partAfter, extended, stateBy, afterAdd}
+use Rattle.model.specs.Steps.{nameHead, keyOf, isFull, spaceAfter, room, Decision, refuse, found, enter, decide, partAfter, extended, stateBy, afterAdd}
 use Rattle.model.specs.Good.{GoodPart, Good}
 use Rattle.model.proofs.Decide.{Entering, entering}
 use Rattle.model.proofs.Legal.{legal-kind}
@@ -88,29 +88,29 @@ module _ (s : Sizes) (st : State) (a : Name) (g : ℕ) (G : Good s st) (e : Ente
   used-of : (d : ℕ) → spaceAfter s st a d .used ≤ 2 ^ s .p
   unfolding pageSize
   used-of = space-all s st a (λ d x. x .used ≤ 2 ^ s .p) (G .used)
-      (λ x. grown-used (s .p) x (length (headOf a)) (head-short s a (e .legal) (G .sizes)))
+      (λ x. grown-used (s .p) x (length (nameHead a)) (head-short s a (e .legal) (G .sizes)))
       (λ x. grown-used (s .p) x (length (keyOf (st .part (a .kind) .heads) a)) (key-short s a (e .legal) (G .sizes) (st .part (a .kind) .heads)))
 
   pageless-of : (d : ℕ) → spaceAfter s st a d .taken ≡ zero → spaceAfter s st a d .used ≡ zero
   pageless-of = space-all s st a (λ d x. x .taken ≡ zero → x .used ≡ zero) (G .pageless)
-      (λ x z. absurd (omega (arith, grown-taken (s .p) x (length (headOf a)))))
+      (λ x z. absurd (omega (arith, grown-taken (s .p) x (length (nameHead a)))))
       (λ x z. absurd (omega (arith, grown-taken (s .p) x (length (keyOf (st .part (a .kind) .heads) a)))))
 
   beyond-of : (d : ℕ) → dictionaries ≤ d → spaceAfter s st a d .taken ≡ zero
   beyond-of = space-all s st a (λ d x. dictionaries ≤ d → x .taken ≡ zero) (G .beyond)
       (λ x h. absurd (omega (arith, heads-at (a .kind)))) (λ x h. absurd (omega (arith, main-at (a .kind))))
 
-  unused-of : (k l : ℕ) → took (s .w) (st .blocks) (a .kind) g .next k ≤ l * 2 ^ s .w → took (s .w) (st .blocks) (a .kind) g .place k l ≡ zero
+  unused-of : (k l : ℕ) → took (s .w) (st .blocks) (a .kind) g .next k ≤ l * 2 ^ s .w → took (s .w) (st .blocks) (a .kind) g .blockOf k l ≡ zero
   unused-of k l h = go (ℕ-discrete (a .kind) k)
     where
       inner : st .blocks .next (a .kind) < l * 2 ^ s .w → Dec (st .blocks .next (a .kind) / 2 ^ s .w ≡ l)
-          → upd (st .blocks .place (a .kind)) (st .blocks .next (a .kind) / 2 ^ s .w) g l ≡ zero
+          → upd (st .blocks .blockOf (a .kind)) (st .blocks .next (a .kind) / 2 ^ s .w) g l ≡ zero
       inner u (yes e) =
           let v : l * 2 ^ s .w ≤ st .blocks .next (a .kind) = rw (← e) (omega (arith, Pow.split (st .blocks .next (a .kind)) (s .w))) in
           absurd (omega arith)
       inner u (no q) = rw (ne-eqb (st .blocks .next (a .kind) / 2 ^ s .w) l q) (G .unused (a .kind) l (omega arith))
 
-      go : Dec (a .kind ≡ k) → took (s .w) (st .blocks) (a .kind) g .place k l ≡ zero
+      go : Dec (a .kind ≡ k) → took (s .w) (st .blocks) (a .kind) g .blockOf k l ≡ zero
       go (yes e) = rw (eq-eqb (a .kind) k e) (inner (rw (eq-eqb (a .kind) k e) at h) (ℕ-discrete (st .blocks .next (a .kind) / 2 ^ s .w) l))
       go (no q) = rw (ne-eqb (a .kind) k q) (G .unused k l (rw (ne-eqb (a .kind) k q) at h))
 

@@ -17,7 +17,7 @@ use Rattle.ranked_pair_dictionary.proofs.Laws.{fid-same}
 use Rattle.model.specs.Names.{Name, sameName}
 use Rattle.model.specs.Kinds.{row}
 use Rattle.model.specs.State.{Stamped, Part, localOf, entryNumber}
-use Rattle.model.specs.Steps.{checks, headOf, newHead, keyOf, partAfter}
+use Rattle.model.specs.Steps.{checks, nameHead, newHead, keyOf, partAfter}
 use Rattle.model.specs.Keys.{keysOf, lookedUp}
 use Rattle.model.specs.Good.{NamesOf, Different, Covered, GoodPart}
 use Rattle.model.proofs.Names.{name-true, name-same}
@@ -57,7 +57,7 @@ entry-same b c (x ∷ xs) f d e = go (split (sameBytes b x)) (split (sameBytes c
 
 -- The head of the name is stored, if its kind has heads.
 abbrev pub Known : List Bytes → Name → Type 0
-Known hs a = row (a .kind) .paired ≡ true → (f : ℕ) × (entryNumber (headOf a) hs ≡ some f)
+Known hs a = row (a .kind) .paired ≡ true → (f : ℕ) × (entryNumber (nameHead a) hs ≡ some f)
 
 -- There are as many keys as names.
 pub length-keys : (hs : List Bytes) (xs : List Stamped) → length (keysOf hs xs) ≡ length xs
@@ -75,9 +75,9 @@ module _ (s : Sizes) (R : InRange s) (hs : List Bytes) (few : length hs ≤ s .e
           let y = g t′ in
           let d : fid (x .0) ++ row (a .kind) .rest a ≡ fid (y .0) ++ row (b .kind) .rest b = rw (t, t′, x .1, y .1) at e in
           let r = fid-same (x .0) (y .0) (row (a .kind) .rest a) (row (b .kind) .rest b)
-          (omega (arith, entry-lt (headOf a) hs (x .0) (x .1), R .e .1)) (omega (arith, entry-lt (headOf b) hs (y .0) (y .1), R .e .1)) d in
-          let i : entryNumber (headOf b) hs ≡ some (x .0) = y .1 ∙ ap some (sym (r .0)) in
-          let j : headOf a ≡ headOf b = entry-same (headOf a) (headOf b) hs (x .0) (x .1) i in
+          (omega (arith, entry-lt (nameHead a) hs (x .0) (x .1), R .e .1)) (omega (arith, entry-lt (nameHead b) hs (y .0) (y .1), R .e .1)) d in
+          let i : entryNumber (nameHead b) hs ≡ some (x .0) = y .1 ∙ ap some (sym (r .0)) in
+          let j : nameHead a ≡ nameHead b = entry-same (nameHead a) (nameHead b) hs (x .0) (x .1) i in
           names-same s a b p q k (λ u. j ∙ ap (λ (n : ℕ). row n .head b) (sym k)) (r .1 ∙ ap (λ (n : ℕ). row n .rest b) (sym k))
       go (inr t) =
           let t′ : row (b .kind) .paired ≡ false = rw k at t in
@@ -109,13 +109,13 @@ pub keys-different : (s : Sizes) → InRange s → (k t n : ℕ) (pt : Part) →
 keys-different s R k t n pt G = different-keys s R (pt .heads) (G .fewHeads) k t (pt .names) (G .names) (G .covered)
 
 -- A name whose head is not stored is not there.
-not-there : (a : Name) (hs : List Bytes) (xs : List Stamped) → Covered hs xs → entryNumber (headOf a) hs ≡ none → localOf a xs ≡ none
+not-there : (a : Name) (hs : List Bytes) (xs : List Stamped) → Covered hs xs → entryNumber (nameHead a) hs ≡ none → localOf a xs ≡ none
 not-there a hs [] c e = refl
 not-there a hs (x ∷ xs) c e = go (split (sameName a (x .name))) (not-there a hs xs (c .1) e)
   where
     go : Split (sameName a (x .name)) → localOf a xs ≡ none → localOf a (x ∷ xs) ≡ none
     go (inl p) ih =
-        let u : entryNumber (headOf (x .name)) hs ≡ none = rw (← name-true a (x .name) p) e in
+        let u : entryNumber (nameHead (x .name)) hs ≡ none = rw (← name-true a (x .name) p) e in
         let v : none ≡ some (c .0 .0) = sym u ∙ c .0 .1 in
         let z : _≡_ {A = ℕ} 0 1 = cc in absurd (omega arith)
     go (inr p) ih = rw p ih
@@ -127,16 +127,16 @@ module _ (s : Sizes) (R : InRange s) (a : Name) (t n : ℕ) (pt : Part) (G : Goo
       go : Split (newHead a pt) → localOf a (pt .names) ≡ lookedUp a pt
       go (inl p) = rw p (not-there a (pt .heads) (pt .names) (G .covered (and-left (row (a .kind) .paired) _ p)) (is-none _ (and-right (row (a .kind) .paired) _ p)))
       go (inr p) = rw p (found-by-key s R (pt .heads) (G .fewHeads) (a .kind) t a (pt .names) refl legal
-          (λ e. is-some (entryNumber (headOf a) (pt .heads)) (rw e at p)) (G .names) (G .covered))
+          (λ e. is-some (entryNumber (nameHead a) (pt .heads)) (rw e at p)) (G .names) (G .covered))
 
 -- ---- an add puts one key in front, and the stored ones stay
 
-key-stays : (h : Bytes) (hs : List Bytes) (b : Name) (f : ℕ) → entryNumber h hs ≡ none → entryNumber (headOf b) hs ≡ some f → keyOf (h ∷ hs) b ≡ keyOf hs b
-key-stays h hs b f e c = go (split (sameBytes (headOf b) h))
+key-stays : (h : Bytes) (hs : List Bytes) (b : Name) (f : ℕ) → entryNumber h hs ≡ none → entryNumber (nameHead b) hs ≡ some f → keyOf (h ∷ hs) b ≡ keyOf hs b
+key-stays h hs b f e c = go (split (sameBytes (nameHead b) h))
   where
-    go : Split (sameBytes (headOf b) h) → keyOf (h ∷ hs) b ≡ keyOf hs b
+    go : Split (sameBytes (nameHead b) h) → keyOf (h ∷ hs) b ≡ keyOf hs b
     go (inl p) =
-        let u : entryNumber h hs ≡ some f = rw (← bytes-true (headOf b) h p) c in
+        let u : entryNumber h hs ≡ some f = rw (← bytes-true (nameHead b) h p) c in
         let v : none ≡ some f = sym e ∙ u in
         let z : _≡_ {A = ℕ} 0 1 = cc in absurd (omega arith)
     go (inr p) = rw (p, c)
@@ -153,6 +153,6 @@ keys-after s a t n pt G = go (split (newHead a pt))
     go (inr p) = rw p
     go (inl p) =
         let pair : row (a .kind) .paired ≡ true = and-left (row (a .kind) .paired) _ p in
-        let e : entryNumber (headOf a) (pt .heads) ≡ none = is-none _ (and-right (row (a .kind) .paired) _ p) in
-        let k : keyOf (headOf a ∷ pt .heads) a ≡ keyOf (pt .heads) a = rw (bytes-same (headOf a), e) in
-        rw (p, k, keys-stay (headOf a) (pt .heads) (pt .names) e (G .covered pair))
+        let e : entryNumber (nameHead a) (pt .heads) ≡ none = is-none _ (and-right (row (a .kind) .paired) _ p) in
+        let k : keyOf (nameHead a ∷ pt .heads) a ≡ keyOf (pt .heads) a = rw (bytes-same (nameHead a), e) in
+        rw (p, k, keys-stay (nameHead a) (pt .heads) (pt .names) e (G .covered pair))

@@ -18,7 +18,7 @@ use Rattle.ranked_pair_iri_dv_dict.specs.Split.{headLength}
 use Rattle.string_dv_dict.proofs.Laws.{packed-at-most}
 use Rattle.model.specs.Names.{Name, size}
 use Rattle.model.specs.Kinds.{row}
-use Rattle.model.specs.Steps.{checks, headOf, keyOf}
+use Rattle.model.specs.Steps.{checks, nameHead, keyOf}
 use Rattle.model.proofs.Legal.{legal}
 
 -- By the table.
@@ -38,7 +38,7 @@ module _ (s : Sizes) (a : Name) (e : checks s a ≡ none) where
   rest-length (suc (suc (suc (suc k)))) = omega (arith, legal s a e .shape .size)
 
   module _ (r : InRange s) where
-    pub head-short : length (headOf a) ≤ pageSize s
+    pub head-short : length (nameHead a) ≤ pageSize s
     head-short = omega (arith, legal s a e .shape .size, head-length (a .kind) a, limit-fits s r)
 
     pub key-short : (hs : List Bytes) → length (keyOf hs a) ≤ pageSize s

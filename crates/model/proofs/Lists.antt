@@ -19,7 +19,7 @@ use Rattle.model.specs.State.{State, opened, numberOf, nameOf}
 use Rattle.model.specs.Steps.{checks, addAnswer, findBy, findChecked, findAnswer, readAnswer, readBuffer, countAnswer}
 use Rattle.model.specs.Good.{Good}
 use Rattle.model.specs.Calls.{Event, add, find, read, count, At, Gave, Accepted, Before, nothing, stepsRule, beforeOf, Given, Issued, freshKinds, howMany, Demand3}
-use Rattle.model.specs.Runs.{Right, after, Runs}
+use Rattle.model.specs.Runs.{RightAnswer, afterCall, Runs}
 use Rattle.model.specs.Order.{ordered, freshNames}
 use Rattle.model.proofs.Numbers.{read-back, number-back}
 use Rattle.model.proofs.Good.{opened-good, add-good}
@@ -31,18 +31,18 @@ use Rattle.model.proofs.Adds.{keeps, came, gave, was-known, was-new, bl
 -- The state after a list of events.
 abbrev stateOf : Sizes → State → List Event → State
 stateOf s st [] = st
-stateOf s st (e ∷ es) = after s (stateOf s st es) e
+stateOf s st (e ∷ es) = afterCall s (stateOf s st es) e
 
 abbrev Model : Sizes → State → List Event → Type 0
 Model s st [] = Unit {0}
-Model s st (e ∷ es) = Right s (stateOf s st es) e × Model s st es
+Model s st (e ∷ es) = RightAnswer s (stateOf s st es) e × Model s st es
 
 module _ (Mem : Type 0) (s : Sizes) (Stands : State → Mem → Type 0) (st : State) (m : Mem) (begin : Stands st m) where
   model : (es : List Event) (z : Mem) → Runs Mem s Stands m es z → Model s st es × Stands (stateOf s st es) z
   model [] z r = (tt, rw r begin)
   model (e ∷ es) z r =
       let h : Model s st es × Stands (stateOf s st es) (r .0) = model es (r .0) (r .1) in
-      let k : Right s (stateOf s st es) e × Stands (after s (stateOf s st es) e) z = r .2 (stateOf s st es) (h .1) in
+      let k : RightAnswer s (stateOf s st es) e × Stands (afterCall s (stateOf s st es) e) z = r .2 (stateOf s st es) (h .1) in
       ((k .0, h .0), k .1)
 
 -- ---- the events and the state they lead to
@@ -112,7 +112,7 @@ module _ (s : Sizes) (st : State) (G : Good s st) (o : Before) (S : Starts s st 
   in-front (count j r ∷ es) h = in-front es (h .1)
 
   -- At each place the answer is that of the state before it.
-  at : (e : Event) (xs es : List Event) → Model s st es → At e xs es → Right s (now xs) e × Model s st xs
+  at : (e : Event) (xs es : List Event) → Model s st es → At e xs es → RightAnswer s (now xs) e × Model s st xs
   at e xs [] h c = absurd c
   at e xs (x ∷ es) h (inl c) = rw (c .0, c .1) h
   at e xs (x ∷ es) h (inr c) = at e xs es (h .1) c

@@ -19,7 +19,7 @@ use Rattle.bytes_buffer.specs.Pages.{sum}
 use Rattle.model.specs.Names.{Name}
 use Rattle.model.specs.Kinds.{row}
 use Rattle.model.specs.State.{Stamped, Part, localOf, entryNumber}
-use Rattle.model.specs.Steps.{checks, isNone, headOf, newHead, isFull, partAfter}
+use Rattle.model.specs.Steps.{checks, isNone, nameHead, newHead, isFull, partAfter}
 use Rattle.model.specs.Good.{NamesOf, Covered, GoodPart}
 
 -- ---- stamps
@@ -51,7 +51,7 @@ head-known h x hs f e = go (split (sameBytes h x))
 
 covered-more : (x : Bytes) (hs : List Bytes) (xs : List Stamped) → Covered hs xs → Covered (x ∷ hs) xs
 covered-more x hs [] c = tt
-covered-more x hs (y ∷ xs) c = (head-known (headOf (y .name)) x hs (c .0 .0) (c .0 .1), covered-more x hs xs (c .1))
+covered-more x hs (y ∷ xs) c = (head-known (nameHead (y .name)) x hs (c .0 .0) (c .0 .1), covered-more x hs xs (c .1))
 
 pub is-none : (o : Option ℕ) → isNone o ≡ true → o ≡ none
 is-none none e = refl
@@ -77,7 +77,7 @@ module _ (s : Sizes) (a : Name) (t n : ℕ) (pt : Part) (G : GoodPart s (a .kind
       go : Split (newHead a pt) → GoodPart s (a .kind) (suc t) (suc n) (partAfter a pt t)
       go (inl p) =
           let pair : row (a .kind) .paired ≡ true = and-left (row (a .kind) .paired) _ p in
-          let no-head : entryNumber (headOf a) (pt .heads) ≡ none = is-none _ (and-right (row (a .kind) .paired) _ p) in
+          let no-head : entryNumber (nameHead a) (pt .heads) ≡ none = is-none _ (and-right (row (a .kind) .paired) _ p) in
           let full : (newHead a pt && leb (s .e) (length (pt .heads))) ≡ false = or-right (leb (s .e) (length (pt .names))) _ roomy in
           let few-heads : length (pt .heads) < s .e = leb-false (s .e) (length (pt .heads)) (rw p at full) in
           record {
@@ -86,7 +86,7 @@ module _ (s : Sizes) (a : Name) (t n : ℕ) (pt : Part) (G : GoodPart s (a .kind
             fewNames = few;
             different = rw p (no-head, G .different);
             fewHeads = rw p few-heads;
-            covered = λ e. rw p ((length (pt .heads), rw (bytes-same (headOf a))), covered-more (headOf a) (pt .heads) (pt .names) (G .covered e));
+            covered = λ e. rw p ((length (pt .heads), rw (bytes-same (nameHead a))), covered-more (nameHead a) (pt .heads) (pt .names) (G .covered e));
             headless = λ e. clash pair e;
           }
       go (inr p) = record {
@@ -95,6 +95,6 @@ module _ (s : Sizes) (a : Name) (t n : ℕ) (pt : Part) (G : GoodPart s (a .kind
         fewNames = few;
         different = rw p (G .different);
         fewHeads = rw p (G .fewHeads);
-        covered = λ e. rw p (is-some (entryNumber (headOf a) (pt .heads)) (rw e at p), G .covered e);
+        covered = λ e. rw p (is-some (entryNumber (nameHead a) (pt .heads)) (rw e at p), G .covered e);
         headless = λ e. rw p (G .headless e);
       }

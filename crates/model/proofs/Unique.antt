@@ -80,13 +80,13 @@ module _ (s : Sizes) where
     nexts k = F .part k .numbered ∙ ap (λ (p : Part). length (p .names)) (parts k) ∙ sym (G .part k .numbered)
 
     -- A place follows from the owners.
-    places : (k l : ℕ) → x .blocks .place k l ≡ y .blocks .place k l
+    places : (k l : ℕ) → x .blocks .blockOf k l ≡ y .blocks .blockOf k l
     places k l = go (split (ltb (l * 2 ^ s .w) (x .blocks .next k)))
       where
-        go : Split (ltb (l * 2 ^ s .w) (x .blocks .next k)) → x .blocks .place k l ≡ y .blocks .place k l
+        go : Split (ltb (l * 2 ^ s .w) (x .blocks .next k)) → x .blocks .blockOf k l ≡ y .blocks .blockOf k l
         go (inl p) =
-            let o : x .blocks .owner (x .blocks .place k l) ≡ held k l = F .sound .there k l (ltb-true _ _ p) in
-            sym (G .sound .back (x .blocks .place k l) k l (sym (owners (x .blocks .place k l)) ∙ o) .1)
+            let o : x .blocks .owner (x .blocks .blockOf k l) ≡ held k l = F .sound .there k l (ltb-true _ _ p) in
+            sym (G .sound .back (x .blocks .blockOf k l) k l (sym (owners (x .blocks .blockOf k l)) ∙ o) .1)
         go (inr p) =
             let h : x .blocks .next k ≤ l * 2 ^ s .w = ltb-false _ _ p in
             F .unused k l h ∙ sym (G .unused k l (rw (nexts k) at h))
@@ -94,6 +94,6 @@ module _ (s : Sizes) where
     pub unique : x ≡ y
     unique = λ i. record {
       part = λ k. parts k i;
-      blocks = record { owner = λ g. owners g i; place = λ k l. places k l i; next = λ k. nexts k i };
+      blocks = record { owner = λ g. owners g i; blockOf = λ k l. places k l i; next = λ k. nexts k i };
       space = λ d. spaces d i;
     }

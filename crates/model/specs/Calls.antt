@@ -33,11 +33,11 @@ At e xs [] = ⊥
 At e xs (x ∷ es) = ((e ≡ x) × (xs ≡ es)) ⊎ At e xs es
 
 -- An add's answer said fresh with the number n; it gave the number n.
-abbrev pub Fresh : AddAnswer → ℕ → Type 0
-Fresh r n = r ≡ AddAnswer.fresh n
+abbrev pub SaidFresh : AddAnswer → ℕ → Type 0
+SaidFresh r n = r ≡ AddAnswer.fresh n
 
 abbrev pub Gave : AddAnswer → ℕ → Type 0
-Gave r n = Fresh r n ⊎ (r ≡ AddAnswer.known n)
+Gave r n = SaidFresh r n ⊎ (r ≡ AddAnswer.known n)
 
 -- A find that is not refused is accepted.
 abbrev pub Accepted : FindAnswer → Type 0
@@ -74,7 +74,7 @@ abbrev pub Given : Before → Name → ℕ → List Event → Type 0
 Given o a n es = Added Gave o a n es
 
 abbrev pub Issued : Before → Name → ℕ → List Event → Type 0
-Issued o a n es = Added Fresh o a n es
+Issued o a n es = Added SaidFresh o a n es
 
 -- The kinds of the fresh names, newest first.
 abbrev pub ifFresh : ℕ → AddAnswer → List ℕ → List ℕ

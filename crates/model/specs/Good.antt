@@ -12,7 +12,7 @@ use Rattle.bytes_buffer.specs.Pages.{allPages}
 use Rattle.meta_dv_dict.specs.Sound.{Sound, Below}
 use Rattle.model.specs.Kinds.{row}
 use Rattle.model.specs.State.{Stamped, Part, State, stampOf, localOf, entryNumber}
-use Rattle.model.specs.Steps.{checks, headOf}
+use Rattle.model.specs.Steps.{checks, nameHead}
 
 -- Names of the kind k: legal, pairwise different, their stamps falling, all below t.
 abbrev pub NamesOf : Sizes → ℕ → ℕ → List Stamped → Type 0
@@ -26,7 +26,7 @@ Different (h ∷ hs) = (entryNumber h hs ≡ none) × Different hs
 -- Each name's head is among the heads.
 abbrev pub Covered : List Bytes → List Stamped → Type 0
 Covered hs [] = Unit {0}
-Covered hs (x ∷ xs) = ((f : ℕ) × (entryNumber (headOf (x .name)) hs ≡ some f)) × Covered hs xs
+Covered hs (x ∷ xs) = ((f : ℕ) × (entryNumber (nameHead (x .name)) hs ≡ some f)) × Covered hs xs
 
 -- The part of the kind k, where t is the next stamp and n the kind's next local number.
 pub record GoodPart (s : Sizes) (k t n : ℕ) (pt : Part) : Type 0 where
@@ -46,6 +46,6 @@ pub record Good (s : Sizes) (st : State) : Type 0 where
   pub used : (d : ℕ) → st .space d .used ≤ 2 ^ s .p
   pub taken : allPages (st .space) ≤ s .n
   -- What no memory holds is zero, so that one memory stands for one state.
-  pub unused : (k l : ℕ) → st .blocks .next k ≤ l * 2 ^ s .w → st .blocks .place k l ≡ zero
+  pub unused : (k l : ℕ) → st .blocks .next k ≤ l * 2 ^ s .w → st .blocks .blockOf k l ≡ zero
   pub pageless : (d : ℕ) → st .space d .taken ≡ zero → st .space d .used ≡ zero
   pub beyond : (d : ℕ) → dictionaries ≤ d → st .space d .taken ≡ zero

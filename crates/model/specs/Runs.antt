@@ -7,24 +7,24 @@ use Rattle.model.specs.Steps.{addAnswer, afterAdd, findAnswer, readAnswe
 use Rattle.model.specs.Calls.{Event, add, find, read, count}
 
 -- A call answers as the state says.
-abbrev pub Right : Sizes → State → Event → Type 0
-Right s st (add a r) = r ≡ addAnswer s st a
-Right s st (find a r) = r ≡ findAnswer s st a
-Right s st (read n x r y) = (r ≡ readAnswer s st n x) × (y ≡ readBuffer s st n x)
-Right s st (count k r) = r ≡ countAnswer st k
+abbrev pub RightAnswer : Sizes → State → Event → Type 0
+RightAnswer s st (add a r) = r ≡ addAnswer s st a
+RightAnswer s st (find a r) = r ≡ findAnswer s st a
+RightAnswer s st (read n x r y) = (r ≡ readAnswer s st n x) × (y ≡ readBuffer s st n x)
+RightAnswer s st (count k r) = r ≡ countAnswer st k
 
 -- The state after a call.
-abbrev pub after : Sizes → State → Event → State
-after s st (add a r) = afterAdd s st a
-after s st (find a r) = st
-after s st (read n x r y) = st
-after s st (count k r) = st
+abbrev pub afterCall : Sizes → State → Event → State
+afterCall s st (add a r) = afterAdd s st a
+afterCall s st (find a r) = st
+afterCall s st (read n x r y) = st
+afterCall s st (count k r) = st
 
 -- `Stands st m`: the memory m holds a dictionary of the sizes s in this state.
 module _ (Mem : Type 0) (s : Sizes) (Stands : State → Mem → Type 0) where
   -- One call: the memory before, the call with its answer, the memory after.
   abbrev pub Step : Mem → Event → Mem → Type 0
-  Step m e m′ = (st : State) → Stands st m → Right s st e × Stands (after s st e) m′
+  Step m e m′ = (st : State) → Stands st m → RightAnswer s st e × Stands (afterCall s st e) m′
 
   -- From m the calls of the list leave z.
   abbrev pub Runs : Mem → List Event → Mem → Type 0

@@ -62,16 +62,16 @@ abbrev pub orElse : ℕ → Option ℕ → ℕ
 orElse n none = n
 orElse n (some f) = f
 
-abbrev pub headOf : Name → Bytes
-headOf a = row (a .kind) .head a
+abbrev pub nameHead : Name → Bytes
+nameHead a = row (a .kind) .head a
 
 -- Is its head a new one?
 abbrev pub newHead : Name → Part → Bool
-newHead a pt = row (a .kind) .paired && isNone (entryNumber (headOf a) (pt .heads))
+newHead a pt = row (a .kind) .paired && isNone (entryNumber (nameHead a) (pt .heads))
 
 -- What the main dictionary stores, under these heads: the rest, in a paired kind after the frequent id of its head, stored or next.
 abbrev pub keyOf : List Bytes → Name → Bytes
-keyOf hs a = cond (row (a .kind) .paired) (fid (orElse (length hs) (entryNumber (headOf a) hs)) ++ row (a .kind) .rest a) (row (a .kind) .rest a)
+keyOf hs a = cond (row (a .kind) .paired) (fid (orElse (length hs) (entryNumber (nameHead a) hs)) ++ row (a .kind) .rest a) (row (a .kind) .rest a)
 
 -- ---- room for them: 8, 9
 
@@ -81,7 +81,7 @@ isFull s a pt = leb (s .e) (length (pt .names)) || (newHead a pt && leb (s .e) (
 
 -- The spaces with the head, if it is new; and then with the main entry.
 abbrev pub spaceHead : Sizes → State → Name → ℕ → Space
-spaceHead s st a = cond (newHead a (st .part (a .kind))) (grownAt s (st .space) (row (a .kind) .headsAt) (length (headOf a))) (st .space)
+spaceHead s st a = cond (newHead a (st .part (a .kind))) (grownAt s (st .space) (row (a .kind) .headsAt) (length (nameHead a))) (st .space)
 
 abbrev pub spaceAfter : Sizes → State → Name → ℕ → Space
 spaceAfter s st a = grownAt s (spaceHead s st a) (row (a .kind) .mainAt) (length (keyOf (st .part (a .kind) .heads) a))
@@ -122,7 +122,7 @@ abbrev pub partAfter : Name → Part → ℕ → Part
 partAfter a pt t =
     record {
       names = record { name = a; stamp = t } ∷ pt .names;
-      heads = cond (newHead a pt) (headOf a ∷ pt .heads) (pt .heads);
+      heads = cond (newHead a pt) (nameHead a ∷ pt .heads) (pt .heads);
     }
 
 -- The state with the fresh name a, in the block g.
@@ -167,8 +167,8 @@ abbrev pub nameAnswer : Name → ReadAnswer
 nameAnswer a = ReadAnswer.name (a .kind) (length (a .first)) (length (a .second))
 
 -- The parts one after the other at the buffer's start, the rest as it was.
-abbrev pub written : Name → Bytes → Bytes
-written a buffer = a .first ++ a .second ++ drop (size a) buffer
+abbrev pub nameWritten : Name → Bytes → Bytes
+nameWritten a buffer = a .first ++ a .second ++ drop (size a) buffer
 
 abbrev pub readBy : Bytes → Option Name → ReadAnswer
 readBy buffer none = ReadAnswer.absent
@@ -176,7 +176,7 @@ readBy buffer (some a) = cond (leb (size a) (length buffer)) (nameAnswer a) (Rea
 
 abbrev pub bufferBy : Bytes → Option Name → Bytes
 bufferBy buffer none = buffer
-bufferBy buffer (some a) = cond (leb (size a) (length buffer)) (written a buffer) buffer
+bufferBy buffer (some a) = cond (leb (size a) (length buffer)) (nameWritten a buffer) buffer
 
 abbrev pub readAnswer : Sizes → State → ℕ → Bytes → ReadAnswer
 readAnswer s st n buffer = readBy buffer (nameOf s st n)

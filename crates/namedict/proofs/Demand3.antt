@@ -11,7 +11,7 @@ use Rattle.slices.proofs.Tests.{Split, split}
 use Rattle.layout.specs.declared.Sizes.{Sizes}
 use Rattle.model.specs.Names.{Name}
 use Rattle.model.specs.Answers.{AddAnswer, FindAnswer, CountAnswer}
-use Rattle.model.specs.Calls.{Event, At, Fresh, Gave, Accepted, Added, nothing, Given, Issued, ifFresh, freshKinds, howMany, Demand3}
+use Rattle.model.specs.Calls.{Event, At, SaidFresh, Gave, Accepted, Added, nothing, Given, Issued, ifFresh, freshKinds, howMany, Demand3}
 use Rattle.memory.specs.Lists.{Memory}
 use Rattle.memory.proofs.Brought.{brought-demand-3}
 use Rattle.namedict.specs.declared.NamedictNumbered.{NamedictNumbered}
@@ -31,10 +31,10 @@ called-at e xs (x ∷ es) (inl p) = inl (ap eventOf (p .0), ap (map eventOf) (p 
 called-at e xs (x ∷ es) (inr p) = inr (called-at e xs es p)
 
 -- An add said fresh with n, or was given n, in numbers and by its answer.
-fresh-in : (r : NamedictNumbered) (n : ℕ) → GaveFresh r n ↔ Fresh (addOf r) n
+fresh-in : (r : NamedictNumbered) (n : ℕ) → GaveFresh r n ↔ SaidFresh (addOf r) n
 fresh-in r n = (λ g. rw (eq-eqb (r .refusal) 0 (g .0), eq-eqb (r .word) 1 (g .1)) (ap AddAnswer.fresh (g .2)), go (split (eqb (r .refusal) 0)) (split (eqb (r .word) 1)))
   where
-    go : Split (eqb (r .refusal) 0) → Split (eqb (r .word) 1) → Fresh (addOf r) n → GaveFresh r n
+    go : Split (eqb (r .refusal) 0) → Split (eqb (r .word) 1) → SaidFresh (addOf r) n → GaveFresh r n
     go (inl p) (inl q) e = let f : AddAnswer.fresh (r .number) ≡ AddAnswer.fresh n = rw (p, q) at e in (eqb-true _ _ p, eqb-true _ _ q, cc)
     go (inl p) (inr q) e = let f : AddAnswer.known (r .number) ≡ AddAnswer.fresh n = rw (p, q) at e in let z : _≡_ {A = ℕ} 0 1 = cc in absurd (omega arith)
     go (inr p) q e = let f : AddAnswer.refused (refusalOf (r .refusal)) ≡ AddAnswer.fresh n = rw p at e in let z : _≡_ {A = ℕ} 0 1 = cc in absurd (omega arith)
@@ -64,7 +64,7 @@ given : (s : Sizes) (a : Name) (n : ℕ) (es : List Returned) → GivenNumber a 
 given s = added-in s GaveNumber Gave gave-in
 
 issued : (s : Sizes) (a : Name) (n : ℕ) (es : List Returned) → IssuedNumber a n es ↔ Issued (nothing s) a n (map eventOf es)
-issued s = added-in s GaveFresh Fresh fresh-in
+issued s = added-in s GaveFresh SaidFresh fresh-in
 
 kinds-in : (es : List Returned) → freshKinds (map eventOf es) ≡ kindsOfFresh es
 kinds-in [] = refl

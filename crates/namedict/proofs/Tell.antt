@@ -5,7 +5,7 @@ use lib.Dec.{eqb}
 use Rattle.slices.specs.Bytes.{Bytes}
 use Rattle.refusals.specs.declared.Refusal.{Refusal}
 use Rattle.refusals.specs.declared.Refusal.the-variants.{BadSize, ShortMemory, Unopened, BadKind, TooLong, NotText, NoTag, ListFull, NoPage, NoBlock, ShortBuffer, HighNumber, CutForm}
-use Rattle.refusals.specs.Numbers.{numberOf}
+use Rattle.refusals.specs.Numbers.{refusalNumber}
 use Rattle.refusals.specs.declared.Written.{Written}
 use Rattle.refusals.specs.declared.Written.the-variants as W
 use Rattle.ranked_pair_dictionary.specs.declared.FrequentId.{FrequentId}
@@ -19,7 +19,7 @@ use Rattle.namedict.specs.Numbers.{yesNo, writtenNumbers, valueNumbers, 
 use Rattle.namedict.specs.Answers.{refusalOf, yesOf, writtenOf, valueOf, unpackedOf, openOf, addOf, findOf, readOf, countOf}
 
 -- A refusal by its number, and no refusal has the number 0.
-refusal-back : (why : Refusal) → (refusalOf (numberOf why) ≡ why) × (eqb (numberOf why) 0 ≡ false)
+refusal-back : (why : Refusal) → (refusalOf (refusalNumber why) ≡ why) × (eqb (refusalNumber why) 0 ≡ false)
 refusal-back BadSize = (refl, refl)
 refusal-back ShortMemory = (refl, refl)
 refusal-back Unopened = (refl, refl)

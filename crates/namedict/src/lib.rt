@@ -14,7 +14,7 @@ ghost use mathlib.Core.Path.{_≡_};
 ghost use lib.ListN.{length};
 ghost use Rattle.utf8.specs.Text.{isText};
 ghost use Rattle.ranked_pair_iri_dv_dict.specs.Split.{headOf, lengthOf};
-ghost use Rattle.ranked_pair_dictionary.specs.FrequentId.{writeAnswer, writeBuffer, readAnswer};
+ghost use Rattle.ranked_pair_dictionary.specs.FrequentId.{writeFidAnswer, writeFidBuffer, readFidAnswer};
 ghost use Rattle.string_dv_dict.specs.Answers.{packAnswer, packBuffer, unpackAnswer, unpackBuffer};
 ghost use Rattle.model.specs.Names.{entered};
 ghost use Rattle.dictionary.specs.Answers.{addedBy, foundBy, toldBy, countedBy};
@@ -44,7 +44,7 @@ pub struct NamedictUnpacked {
     pub tag_len: u64,
 }
 
-fn written(answer: Written) -> NamedictWritten
+fn written_numbers(answer: Written) -> NamedictWritten
     ensures { λ r. ⌜ r ≡ writtenNumbers answer ⌝ }
 {
     match answer {
@@ -103,7 +103,7 @@ fn numbered(word: u64, number: u64) -> NamedictNumbered
     }
 }
 
-fn refused(why: Refusal) -> NamedictNumbered
+fn refused_numbers(why: Refusal) -> NamedictNumbered
     ensures { λ r. ⌜ r ≡ refusedNumbers why ⌝ }
 {
     NamedictNumbered {
@@ -113,27 +113,27 @@ fn refused(why: Refusal) -> NamedictNumbered
     }
 }
 
-fn added(answer: AddResult) -> NamedictNumbered
+fn add_numbers(answer: AddResult) -> NamedictNumbered
     ensures { λ r. ⌜ r ≡ addNumbers (addedBy answer) ⌝ }
 {
     match answer {
         AddResult::Fresh(x) => numbered(FRESH, x.0 as u64),
         AddResult::Known(x) => numbered(KNOWN, x.0 as u64),
-        AddResult::Refused(why) => refused(why),
+        AddResult::Refused(why) => refused_numbers(why),
     }
 }
 
-fn found(answer: FindResult) -> NamedictNumbered
+fn find_numbers(answer: FindResult) -> NamedictNumbered
     ensures { λ r. ⌜ r ≡ findNumbers (foundBy answer) ⌝ }
 {
     match answer {
         FindResult::Known(x) => numbered(KNOWN, x.0 as u64),
         FindResult::Nothing => numbered(NONE, 0),
-        FindResult::Refused(why) => refused(why),
+        FindResult::Refused(why) => refused_numbers(why),
     }
 }
 
-fn told(answer: ReadResult) -> NamedictName
+fn name_numbers(answer: ReadResult) -> NamedictName
     ensures { λ r. ⌜ r ≡ nameNumbers (toldBy answer) ⌝ }
 {
     match answer {
@@ -165,7 +165,7 @@ fn told(answer: ReadResult) -> NamedictName
     }
 }
 
-fn counted(answer: CountResult) -> NamedictCounted
+fn count_numbers(answer: CountResult) -> NamedictCounted
     ensures { λ r. ⌜ r ≡ countNumbers (countedBy answer) ⌝ }
 {
     match answer {
@@ -207,15 +207,15 @@ pub extern "C" fn namedict_split_iri(iri: &[u8]) -> u64
 // Writes a frequent id at the buffer's start.
 #[no_mangle]
 pub extern "C" fn namedict_write_fid(value: u64, buffer: &mut [u8]) -> NamedictWritten
-    ensures { λ r. ⌜ (r ≡ writtenNumbers (writeAnswer value (length (now (buffer .entry))))) × (now (buffer .exit) ≡ writeBuffer value (now (buffer .entry))) ⌝ }
+    ensures { λ r. ⌜ (r ≡ writtenNumbers (writeFidAnswer value (length (now (buffer .entry))))) × (now (buffer .exit) ≡ writeFidBuffer value (now (buffer .entry))) ⌝ }
 {
-    written(ranked_pair_dictionary::write_frequent_id(value as usize, buffer))
+    written_numbers(ranked_pair_dictionary::write_frequent_id(value as usize, buffer))
 }
 
 // Reads the frequent id in front of the bytes.
 #[no_mangle]
 pub extern "C" fn namedict_read_fid(bytes: &[u8]) -> NamedictValue
-    ensures { λ r. ⌜ r ≡ valueNumbers (readAnswer (now (bytes .entry))) ⌝ }
+    ensures { λ r. ⌜ r ≡ valueNumbers (readFidAnswer (now (bytes .entry))) ⌝ }
     ensures kept { λ _. ⌜ now (bytes .exit) ≡ now (bytes .entry) ⌝ }
 {
     match ranked_pair_dictionary::read_frequent_id(bytes) {
@@ -238,7 +238,7 @@ pub extern "C" fn namedict_pack(text: &[u8], tag: &[u8], buffer: &mut [u8]) -> N
     ensures { λ r. ⌜ (r ≡ writtenNumbers (packAnswer (now (text .entry)) (now (tag .entry)) (length (now (buffer .entry))))) × (now (buffer .exit) ≡ packBuffer (now (text .entry)) (now (tag .entry)) (now (buffer .entry))) ⌝ }
     ensures kept { λ _. ⌜ (now (text .exit) ≡ now (text .entry)) × (now (tag .exit) ≡ now (tag .entry)) ⌝ }
 {
-    written(string_dv_dict::two_strings_to_one(text, tag, buffer))
+    written_numbers(string_dv_dict::two_strings_to_one(text, tag, buffer))
 }
 
 // Unpacks a form: the text at the buffer's start, the tag behind it.
@@ -303,7 +303,7 @@ pub extern "C" fn namedict_add<'a>(
     ensures { λ r. ⌜ AddReturned (now (pages .entry)) (now (lists .entry)) (entered kind (now (first .entry)) (now (second .entry))) r (now (pages .exit)) (now (lists .exit)) ⌝ }
     ensures kept { λ _. ⌜ (now (first .exit) ≡ now (first .entry)) × (now (second .exit) ≡ now (second .entry)) ⌝ }
 {
-    added(dictionary::add(pages, lists, kind as usize, first, second))
+    add_numbers(dictionary::add(pages, lists, kind as usize, first, second))
 }
 
 // The number that a name has.
@@ -318,7 +318,7 @@ pub extern "C" fn namedict_find<'a>(
     ensures { λ r. ⌜ FindReturned (now (pages .entry)) (now (lists .entry)) (entered kind (now (first .entry)) (now (second .entry))) r (now (pages .exit)) (now (lists .exit)) ⌝ }
     ensures kept { λ _. ⌜ (now (first .exit) ≡ now (first .entry)) × (now (second .exit) ≡ now (second .entry)) ⌝ }
 {
-    found(dictionary::find(pages, lists, kind as usize, first, second))
+    find_numbers(dictionary::find(pages, lists, kind as usize, first, second))
 }
 
 // The name that has a number: its parts at the buffer's start, one after the other.
@@ -331,7 +331,7 @@ pub extern "C" fn namedict_read(
 ) -> NamedictName
     ensures { λ r. ⌜ ReadReturned (now (pages .entry)) (now (lists .entry)) number (now (buffer .entry)) r (now (buffer .exit)) (now (pages .exit)) (now (lists .exit)) ⌝ }
 {
-    told(dictionary::read(pages, lists, GlobalId(number as usize), buffer))
+    name_numbers(dictionary::read(pages, lists, GlobalId(number as usize), buffer))
 }
 
 // How many names of a kind there are.
@@ -339,5 +339,5 @@ pub extern "C" fn namedict_read(
 pub extern "C" fn namedict_count(pages: &[u8], lists: &[u8], kind: u64) -> NamedictCounted
     ensures { λ r. ⌜ CountReturned (now (pages .entry)) (now (lists .entry)) kind r (now (pages .exit)) (now (lists .exit)) ⌝ }
 {
-    counted(dictionary::count(pages, lists, kind as usize))
+    count_numbers(dictionary::count(pages, lists, kind as usize))
 }

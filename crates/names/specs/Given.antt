@@ -9,13 +9,6 @@ use Rattle.layout.specs.Sizes.{InRange, kinds, pageBytes, listBytes}
 use Rattle.model.specs.Names.{Name}
 use Rattle.model.specs.Kinds.{row}
 
--- Slices long enough for the sizes, and a kind's number.
-pub record Lent (s : Sizes) (pages lists : Bytes) (k : ℕ) : Type 0 where
-  pub ranged : InRange s
-  pub pages-fit : pageBytes s ≤ length pages
-  pub lists-fit : listBytes s ≤ length lists
-  pub kinded : k < kinds
-
 -- A name of the kind k, which has heads, with this head and this rest.
 pub record IsPair (k : ℕ) (head rest : Bytes) (a : Name) : Type 0 where
   pub kinded : a .kind ≡ k

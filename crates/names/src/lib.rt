@@ -90,12 +90,12 @@ pub fn check_shape(s: Sizes, kind: usize, first: &[u8], second: &[u8]) -> Checke
     Checked::Legal
 }
 
-// Whether both parts are text. Plain: it is known already.
-fn are_text(first: &[u8], second: &[u8], plain: bool) -> bool
-    requires { ⌜ (plain ≡ true → (isText (now first) ≡ true) × (isText (now second) ≡ true)) ⌝ }
+// Whether both parts are text. ASCII: it is known already.
+fn are_text(first: &[u8], second: &[u8], ascii: bool) -> bool
+    requires { ⌜ (ascii ≡ true → (isText (now first) ≡ true) × (isText (now second) ≡ true)) ⌝ }
     ensures { λ r. ⌜ r ≡ (isText (now (first .entry)) && isText (now (second .entry))) ⌝ }
 {
-    if plain {
+    if ascii {
         return true;
     }
     if !utf8::is_text(first) {
@@ -104,12 +104,12 @@ fn are_text(first: &[u8], second: &[u8], plain: bool) -> bool
     utf8::is_text(second)
 }
 
-// Refusals 6 and 7 of a name. Plain: the caller has met no byte of the name that is not a character by itself.
-pub fn check_text(kind: usize, first: &[u8], second: &[u8], plain: bool) -> Checked
-    requires { ⌜ (plain ≡ true → (isText (now first) ≡ true) × (isText (now second) ≡ true)) ⌝ }
+// Refusals 6 and 7 of a name. ASCII: the caller has met no byte of the name that is not a character by itself.
+pub fn check_text(kind: usize, first: &[u8], second: &[u8], ascii: bool) -> Checked
+    requires { ⌜ (ascii ≡ true → (isText (now first) ≡ true) × (isText (now second) ≡ true)) ⌝ }
     ensures { λ r. ⌜ r ≡ checkedBy (textRefusal (entered kind (now (first .entry)) (now (second .entry)))) ⌝ }
 {
-    if !are_text(first, second, plain) {
+    if !are_text(first, second, ascii) {
         return Checked::Illegal(Refusal::NotText);
     }
     if kind == TAGGED && second.len() == 0 {

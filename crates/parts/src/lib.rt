@@ -219,7 +219,7 @@ pub fn hash_on(start: u32, mode: Mode, s: &[u8]) -> u32
 }
 
 // Whether the byte a stands at `at`.
-fn byte_stands(stored: &[u8], at: usize, a: u8) -> bool
+fn has_byte(stored: &[u8], at: usize, a: u8) -> bool
     ensures { λ r. ⌜ r ≡ sameBytes (a ∷ []) (take 1 (drop at (now (stored .entry)))) ⌝ }
 {
     if stored.len() <= at {
@@ -229,15 +229,15 @@ fn byte_stands(stored: &[u8], at: usize, a: u8) -> bool
 }
 
 // Whether one byte's form stands at `at`.
-fn stands(stored: &[u8], at: usize, u: Stored) -> bool
+fn has_stored(stored: &[u8], at: usize, u: Stored) -> bool
     requires { ⌜ at ≤ length (now stored) ⌝ }
     ensures { λ r. ⌜ r ≡ sameBytes (storedBytes u) (take (length (storedBytes u)) (drop at (now (stored .entry)))) ⌝ }
 {
     match u {
-        Stored::One(a) => byte_stands(stored, at, a),
+        Stored::One(a) => has_byte(stored, at, a),
         Stored::Two(a, b) => {
-            if byte_stands(stored, at, a) {
-                byte_stands(stored, at + 1, b)
+            if has_byte(stored, at, a) {
+                has_byte(stored, at + 1, b)
             } else {
                 false
             }
@@ -268,7 +268,7 @@ fn same_escaped(s: &[u8], stored: &[u8]) -> bool
     let mut i = 0;
     while i < s.len() {
         let u = escape_byte(s[i]);
-        if !stands(stored, at, u) {
+        if !has_stored(stored, at, u) {
             return false;
         }
         at += width(u);
@@ -284,7 +284,7 @@ fn same_closed(s: &[u8], stored: &[u8]) -> bool
     if stored.len() != n + 1 {
         return false;
     }
-    if !byte_stands(stored, n, b'>') {
+    if !has_byte(stored, n, b'>') {
         return false;
     }
     same_escaped(s, &stored[..n])
@@ -294,7 +294,7 @@ fn same_short(s: &[u8], stored: &[u8]) -> bool
     requires { ⌜ length (now s) ≤ 127 ⌝ }
     ensures { λ r. ⌜ r ≡ sameBytes (shortTag (now (s .entry))) (now (stored .entry)) ⌝ }
 {
-    if !byte_stands(stored, 0, s.len() as u8) {
+    if !has_byte(stored, 0, s.len() as u8) {
         return false;
     }
     same_raw(s, &stored[1..])
@@ -303,7 +303,7 @@ fn same_short(s: &[u8], stored: &[u8]) -> bool
 fn same_long(s: &[u8], stored: &[u8]) -> bool
     ensures { λ r. ⌜ r ≡ sameBytes (longTag (now (s .entry))) (now (stored .entry)) ⌝ }
 {
-    if !byte_stands(stored, 0, 0) {
+    if !has_byte(stored, 0, 0) {
         return false;
     }
     same_closed(s, &stored[1..])

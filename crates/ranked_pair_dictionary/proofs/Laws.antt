@@ -15,7 +15,7 @@ use Rattle.slices.specs.Bytes.{Bytes}
 use Rattle.slices.proofs.Tests.{Split, split}
 use Rattle.refusals.specs.declared.Refusal.the-variants.{ShortBuffer, HighNumber}
 use Rattle.ranked_pair_dictionary.specs.declared.FrequentId.the-variants.{Value}
-use Rattle.ranked_pair_dictionary.specs.FrequentId.{be, ofBe, frequentId, furtherBytes, fid, writeRefusal, readFurther, readAnswer}
+use Rattle.ranked_pair_dictionary.specs.FrequentId.{be, ofBe, frequentId, furtherBytes, fid, writeRefusal, readFurther, readFidAnswer}
 
 -- ---- the form, for every number n of further bytes
 
@@ -42,9 +42,9 @@ of-be (suc n) x =
     ap (λ (v : ℕ). ofBe v (be n x)) e ∙ of-be n x
 
 -- Every length is read back by value, also one that is longer than needed.
-pub read-back : (n f : ℕ) (rest : Bytes) → f < 64 * 256 ^ n → readAnswer (frequentId n f ++ rest) ≡ Value f (n + 1)
-unfolding frequentId readAnswer readFurther
-read-back n f rest h =
+pub read-written : (n f : ℕ) (rest : Bytes) → f < 64 * 256 ^ n → readFidAnswer (frequentId n f ++ rest) ≡ Value f (n + 1)
+unfolding frequentId readFidAnswer readFurther
+read-written n f rest h =
     let t = top n f h in
     let p : (64 * n + f / 256 ^ n) / 64 ≡ n = omega arith in
     let q : (64 * n + f / 256 ^ n) % 64 ≡ f / 256 ^ n = omega arith in
@@ -96,14 +96,14 @@ pub length-fid : (f : ℕ) → length (fid f) ≡ furtherBytes f + 1
 unfolding fid
 length-fid f = length-frequentId (furtherBytes f) f
 
-pub fid-read : (f : ℕ) (rest : Bytes) → f < 2 ^ 30 → readAnswer (fid f ++ rest) ≡ Value f (length (fid f))
+pub fid-read : (f : ℕ) (rest : Bytes) → f < 2 ^ 30 → readFidAnswer (fid f ++ rest) ≡ Value f (length (fid f))
 unfolding fid
-fid-read f rest h = read-back (furtherBytes f) f rest (fid-holds f h) ∙ ap (λ (n : ℕ). Value f n) (sym (length-fid f))
+fid-read f rest h = read-written (furtherBytes f) f rest (fid-holds f h) ∙ ap (λ (n : ℕ). Value f n) (sym (length-fid f))
 
 -- Two that begin alike are one, and what follows them too.
 pub fid-same : (f g : ℕ) (r s : Bytes) → f < 2 ^ 30 → g < 2 ^ 30 → fid f ++ r ≡ fid g ++ s → (f ≡ g) × (r ≡ s)
 fid-same f g r s hf hg e =
-    let v : Value f (length (fid f)) ≡ Value g (length (fid g)) = sym (fid-read f r hf) ∙ ap readAnswer e ∙ fid-read g s hg in
+    let v : Value f (length (fid f)) ≡ Value g (length (fid g)) = sym (fid-read f r hf) ∙ ap readFidAnswer e ∙ fid-read g s hg in
     let p : f ≡ g = cc in
     (p, cc (drop-append-seam (fid f) r, drop-append-seam (fid g) s))
 

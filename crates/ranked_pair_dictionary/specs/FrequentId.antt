@@ -42,12 +42,12 @@ unfoldable pub writeRefusal : ℕ → ℕ → Option Refusal
 writeRefusal value room = cond (leb (2 ^ 30) value) (some HighNumber) (cond (ltb room (length (fid value))) (some ShortBuffer) none)
 
 -- The length written, or the refusal.
-unfoldable pub writeAnswer : ℕ → ℕ → Written
-writeAnswer value room = writtenBy (fid value) (writeRefusal value room)
+unfoldable pub writeFidAnswer : ℕ → ℕ → Written
+writeFidAnswer value room = writtenBy (fid value) (writeRefusal value room)
 
 -- The form at the buffer's start, the rest untouched; all as found where the writing is refused.
-unfoldable pub writeBuffer : ℕ → Bytes → Bytes
-writeBuffer value buffer = placedBy (fid value) buffer (writeRefusal value (length buffer))
+unfoldable pub writeFidBuffer : ℕ → Bytes → Bytes
+writeFidBuffer value buffer = placedBy (fid value) buffer (writeRefusal value (length buffer))
 
 -- ---- reading, from the front
 
@@ -56,6 +56,6 @@ unfoldable pub readFurther : ℕ → ℕ → Bytes → FrequentId
 readFurther n v s = cond (leb n (length s)) (Value (ofBe v (take n s)) (n + 1)) (Refused CutForm)
 
 -- The value and the length; what follows is not looked at.
-unfoldable pub readAnswer : Bytes → FrequentId
-readAnswer [] = Refused CutForm
-readAnswer (b ∷ s) = readFurther (b / 64) (b % 64) s
+unfoldable pub readFidAnswer : Bytes → FrequentId
+readFidAnswer [] = Refused CutForm
+readFidAnswer (b ∷ s) = readFurther (b / 64) (b % 64) s

@@ -2,7 +2,7 @@
 ghost use mathlib.Core.Path.{_≡_};
 ghost use Prim.Native.Nat.{_≤_, _<_};
 ghost use lib.ListN.{length};
-ghost use Rattle.ranked_pair_dictionary.specs.FrequentId.{furtherBytes, writeAnswer, writeBuffer, readAnswer};
+ghost use Rattle.ranked_pair_dictionary.specs.FrequentId.{furtherBytes, writeFidAnswer, writeFidBuffer, readFidAnswer};
 use refusals::Refusal;
 use refusals::Written;
 
@@ -29,7 +29,7 @@ pub fn further_bytes(value: usize) -> usize
 
 // Every refusal is decided before a byte is written.
 pub fn write_frequent_id(value: usize, buffer: &mut [u8]) -> Written
-    ensures { λ r. ⌜ (r ≡ writeAnswer value (length (now (buffer .entry)))) × (now (buffer .exit) ≡ writeBuffer value (now (buffer .entry))) ⌝ }
+    ensures { λ r. ⌜ (r ≡ writeFidAnswer value (length (now (buffer .entry)))) × (now (buffer .exit) ≡ writeFidBuffer value (now (buffer .entry))) ⌝ }
 {
     let further = further_bytes(value);
     if 1073741824 <= value {
@@ -53,7 +53,7 @@ pub fn write_frequent_id(value: usize, buffer: &mut [u8]) -> Written
 
 // The value and the length of the frequent id in front; what follows it is not looked at.
 pub fn read_frequent_id(bytes: &[u8]) -> FrequentId
-    ensures { λ r. ⌜ r ≡ readAnswer (now (bytes .entry)) ⌝ }
+    ensures { λ r. ⌜ r ≡ readFidAnswer (now (bytes .entry)) ⌝ }
 {
     if bytes.len() == 0 {
         return FrequentId::Refused(Refusal::CutForm);

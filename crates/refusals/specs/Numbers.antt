@@ -3,17 +3,17 @@ use Prim.Native.Nat.{ℕ}
 use Rattle.refusals.specs.declared.Refusal.{Refusal}
 use Rattle.refusals.specs.declared.Refusal.the-variants.{BadSize, ShortMemory, Unopened, BadKind, TooLong, NotText, NoTag, ListFull, NoPage, NoBlock, ShortBuffer, HighNumber, CutForm}
 
-abbrev pub numberOf : Refusal → ℕ
-numberOf BadSize = 1
-numberOf ShortMemory = 2
-numberOf Unopened = 3
-numberOf BadKind = 4
-numberOf TooLong = 5
-numberOf NotText = 6
-numberOf NoTag = 7
-numberOf ListFull = 8
-numberOf NoPage = 9
-numberOf NoBlock = 10
-numberOf ShortBuffer = 11
-numberOf HighNumber = 12
-numberOf CutForm = 13
+abbrev pub refusalNumber : Refusal → ℕ
+refusalNumber BadSize = 1
+refusalNumber ShortMemory = 2
+refusalNumber Unopened = 3
+refusalNumber BadKind = 4
+refusalNumber TooLong = 5
+refusalNumber NotText = 6
+refusalNumber NoTag = 7
+refusalNumber ListFull = 8
+refusalNumber NoPage = 9
+refusalNumber NoBlock = 10
+refusalNumber ShortBuffer = 11
+refusalNumber HighNumber = 12
+refusalNumber CutForm = 13

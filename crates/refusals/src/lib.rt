@@ -1,6 +1,6 @@
 // Document 01's table of refusals, the one place that numbers them, and the answers that several entries share.
 ghost use mathlib.Core.Path.{_≡_};
-ghost use Rattle.refusals.specs.Numbers.{numberOf};
+ghost use Rattle.refusals.specs.Numbers.{refusalNumber};
 
 pub enum Refusal {
     BadSize,
@@ -31,7 +31,7 @@ pub enum Written {
 }
 
 pub fn number(why: Refusal) -> u64
-    ensures { λ r. ⌜ r ≡ numberOf why ⌝ }
+    ensures { λ r. ⌜ r ≡ refusalNumber why ⌝ }
 {
     match why {
         Refusal::BadSize => 1,

@@ -11,13 +11,13 @@ use Rattle.parts.specs.declared.Mode.the-variants.{Raw}
 use Rattle.parts.specs.Parts.{bytesOf}
 use Rattle.bytes_index.specs.declared.Probe.{Probe}
 use Rattle.bytes_index.specs.declared.Probe.the-variants.{At, Free, Bad as BadProbe}
-use Rattle.bytes_index.specs.Search.{keyOf, Searched}
+use Rattle.bytes_index.specs.Search.{keyBytes, Searched}
 use Rattle.meta_dv_dict.specs.declared.LocalId.{LocalId}
 use Rattle.ranked_pair_dictionary.specs.FrequentId.{fid}
 use Rattle.model.specs.Names.{Name}
 use Rattle.model.specs.Kinds.{row}
 use Rattle.model.specs.State.{State, localOf, entryNumber}
-use Rattle.model.specs.Steps.{checks, headOf, newHead}
+use Rattle.model.specs.Steps.{checks, nameHead, newHead}
 use Rattle.model.specs.Keys.{keysOf, lookedUp}
 use Rattle.model.proofs.Keys.{looked-up}
 use Rattle.memory.specs.Stands.{Stands}
@@ -32,12 +32,12 @@ module _ (s : Sizes) (st : State) (pages lists : Bytes) (S : Stands s st pages l
   by-dictionaries : localOf a (st .part (a .kind) .names) ≡ lookedUp a (st .part (a .kind))
   by-dictionaries = looked-up s (S .good .sizes) a _ _ (st .part (a .kind)) (S .good .part (a .kind)) legal
 
-  no-head : row (a .kind) .paired ≡ true → entryNumber (headOf a) (st .part (a .kind) .heads) ≡ none → localOf a (st .part (a .kind) .names) ≡ none
+  no-head : row (a .kind) .paired ≡ true → entryNumber (nameHead a) (st .part (a .kind) .heads) ≡ none → localOf a (st .part (a .kind) .names) ≡ none
   no-head p e =
       let n : newHead a (st .part (a .kind)) ≡ true = rw (p, e) in
       by-dictionaries ∙ rw n
 
-  by-head : (f : ℕ) → row (a .kind) .paired ≡ true → entryNumber (headOf a) (st .part (a .kind) .heads) ≡ some f
+  by-head : (f : ℕ) → row (a .kind) .paired ≡ true → entryNumber (nameHead a) (st .part (a .kind) .heads) ≡ some f
       → localOf a (st .part (a .kind) .names) ≡ entryNumber (fid f ++ row (a .kind) .rest a) (keysOf (st .part (a .kind) .heads) (st .part (a .kind) .names))
   by-head f p e = by-dictionaries ∙ rw (p, e)
 
@@ -47,7 +47,7 @@ module _ (s : Sizes) (st : State) (pages lists : Bytes) (S : Stands s st pages l
 
 -- The same, where the kind and what is looked up have other names.
 head-of : (st : State) (a : Name) (k : ℕ) (head : Bytes) → a .kind ≡ k → row k .head a ≡ head
-    → entryNumber (headOf a) (st .part (a .kind) .heads) ≡ entryNumber head (st .part k .heads)
+    → entryNumber (nameHead a) (st .part (a .kind) .heads) ≡ entryNumber head (st .part k .heads)
 head-of st a k head e h =
     ap (λ (n : ℕ). entryNumber (row n .head a) (st .part n .heads)) e ∙ ap (λ (x : Bytes). entryNumber x (st .part k .heads)) h
 
@@ -61,7 +61,7 @@ key-of st a k lead rest e r =
 -- ---- the search for a key
 
 -- A key without a front.
-pub at-raw : (s : Sizes) (d e : ℕ) (pages lists nothing key : Bytes) (r : Probe) → d ≡ e → nothing ≡ [] → Searched s d pages lists (keyOf Raw nothing key) r
+pub at-raw : (s : Sizes) (d e : ℕ) (pages lists nothing key : Bytes) (r : Probe) → d ≡ e → nothing ≡ [] → Searched s d pages lists (keyBytes Raw nothing key) r
     → Searched s e pages lists key r
 unfolding bytesOf
 at-raw s d e pages lists nothing key r p n h = rw (p, n) at h
@@ -110,7 +110,7 @@ module _ (s : Sizes) (pages lists : Bytes) where
       range = h .range;
       right = λ st a S legal m.
           let q : row (a .kind) .paired ≡ true = rw (m .kinded) pair in
-          let e : entryNumber (headOf a) (st .part (a .kind) .heads) ≡ some f = head-of st a k head (m .kinded) (m .headed) ∙ head-at s st pages lists S k known head pair f g in
+          let e : entryNumber (nameHead a) (st .part (a .kind) .heads) ≡ some f = head-of st a k head (m .kinded) (m .headed) ∙ head-at s st pages lists S k known head pair f g in
           h .right st S ∙ ap searchBy (sym (by-head s st pages lists S a legal f q e ∙ key-of st a k (fid f) rest (m .kinded) (m .rested)));
     }
 
@@ -119,7 +119,7 @@ module _ (s : Sizes) (pages lists : Bytes) where
       range = tt;
       right = λ st a S legal m.
           let q : row (a .kind) .paired ≡ true = rw (m .kinded) pair in
-          let e : entryNumber (headOf a) (st .part (a .kind) .heads) ≡ none = head-of st a k head (m .kinded) (m .headed) ∙ head-free s st pages lists S k known head pair j g in
+          let e : entryNumber (nameHead a) (st .part (a .kind) .heads) ≡ none = head-of st a k head (m .kinded) (m .headed) ∙ head-free s st pages lists S k known head pair j g in
           rw (no-head s st pages lists S a legal q e);
     }
 

@@ -1,3 +1,3 @@
 pub mod Leads
 pub mod Finds
-pub mod Plain
+pub mod Ascii

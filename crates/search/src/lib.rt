@@ -14,13 +14,14 @@ ghost use lib.ListN.{length};
 ghost use mathlib.Core.Option.{none};
 ghost use Rattle.fnv.specs.Fnv.{fnvOf, bitsFrom};
 ghost use Rattle.utf8.specs.Text.{isText};
-ghost use Rattle.layout.specs.Sizes.{limit};
+ghost use Rattle.layout.specs.Sizes.{limit, kinds};
+ghost use Rattle.layout.specs.Header.{Lent};
 ghost use Rattle.parts.specs.Parts.{bytesOf};
-ghost use Rattle.bytes_index.specs.Search.{keyOf, Searched};
+ghost use Rattle.bytes_index.specs.Search.{keyBytes, Searched};
 ghost use Rattle.model.specs.Names.{entered};
 ghost use Rattle.model.specs.Kinds.{row};
 ghost use Rattle.model.specs.Steps.{shapeRefusal};
-ghost use Rattle.search.specs.Found.{Lent, FindsKey, FindsName, IsPair};
+ghost use Rattle.search.specs.Found.{FindsKey, FindsName, IsPair};
 
 // A name's local number. Bad: the memory is no dictionary's.
 pub enum Search {
@@ -29,15 +30,15 @@ pub enum Search {
     Bad,
 }
 
-// What is told of a name that was searched for. Plain: all of its bytes were met, and each is a character by itself.
+// What is told of a name that was searched for. ASCII: all of its bytes were met, and each is a character by itself.
 pub struct Sought {
     pub found: Search,
-    pub plain: bool,
+    pub ascii: bool,
 }
 
 // The search for a head of the kind k, whose hash is h.
 pub fn find_head(pages: &[u8], lists: &[u8], s: Sizes, k: usize, h: u32, head: &[u8]) -> Probe
-    requires { ⌜ Lent s (now pages) (now lists) k × (row k .paired ≡ true) × (h ≡ fnvOf (now head)) ⌝ }
+    requires { ⌜ Lent s (now pages) (now lists) kinds k × (row k .paired ≡ true) × (h ≡ fnvOf (now head)) ⌝ }
     ensures { λ r. ⌜ Searched s (row k .headsAt) (now (pages .entry)) (now (lists .entry)) (now (head .entry)) r ⌝ }
 {
     let none = &head[..0];
@@ -56,8 +57,8 @@ fn find_key(
     front: &[u8],
     rest: &[u8],
 ) -> Search
-    requires { ⌜ Lent s (now pages) (now lists) k × (h ≡ fnvOf (keyOf mode (now front) (now rest))) × (length (bytesOf mode (now front)) < 2 ^ 64) ⌝ }
-    ensures { λ r. ⌜ FindsKey s (now (pages .entry)) (now (lists .entry)) k (keyOf mode (now (front .entry)) (now (rest .entry))) r ⌝ }
+    requires { ⌜ Lent s (now pages) (now lists) kinds k × (h ≡ fnvOf (keyBytes mode (now front) (now rest))) × (length (bytesOf mode (now front)) < 2 ^ 64) ⌝ }
+    ensures { λ r. ⌜ FindsKey s (now (pages .entry)) (now (lists .entry)) k (keyBytes mode (now (front .entry)) (now (rest .entry))) r ⌝ }
 {
     let d = names::main_dictionary(k);
     match bytes_index::bytes_to_id(pages, lists, s, d, h, mode, front, rest) {
@@ -69,9 +70,9 @@ fn find_key(
 
 // The search for a head and a rest.
 fn find_pair(pages: &[u8], lists: &[u8], s: Sizes, k: usize, head: &[u8], rest: &[u8]) -> Sought
-    requires { ⌜ Lent s (now pages) (now lists) k × (row k .paired ≡ true) ⌝ }
+    requires { ⌜ Lent s (now pages) (now lists) kinds k × (row k .paired ≡ true) ⌝ }
     ensures found { λ r. ⌜ FindsName s (IsPair k (now (head .entry)) (now (rest .entry))) (now (pages .entry)) (now (lists .entry)) (r .found) ⌝ }
-    ensures plain { λ r. ⌜ (r .plain ≡ true → bitsFrom (bitsFrom 0 (now (head .entry))) (now (rest .entry)) < 128) ⌝ }
+    ensures ascii { λ r. ⌜ (r .ascii ≡ true → bitsFrom (bitsFrom 0 (now (head .entry))) (now (rest .entry)) < 128) ⌝ }
 {
     let x = fnv::scan(fnv::START, 0, head);
     match find_head(pages, lists, s, k, x.h, head) {
@@ -81,36 +82,36 @@ fn find_pair(pages: &[u8], lists: &[u8], s: Sizes, k: usize, head: &[u8], rest: 
             let Written::Length(n) = written else {
                 return Sought {
                     found: Search::Bad,
-                    plain: false,
+                    ascii: false,
                 };
             };
             let y = fnv::scan(fnv::fnv(&lead[..n]), x.bits, rest);
             let found = find_key(pages, lists, s, k, y.h, Mode::Raw, &lead[..n], rest);
             Sought {
                 found,
-                plain: y.bits < 0x80,
+                ascii: y.bits < 0x80,
             }
         }
         Probe::Free(_) => Sought {
             found: Search::Nothing,
-            plain: false,
+            ascii: false,
         },
         Probe::Bad => Sought {
             found: Search::Bad,
-            plain: false,
+            ascii: false,
         },
     }
 }
 
 fn find_tagged(pages: &[u8], lists: &[u8], s: Sizes, text: &[u8], tag: &[u8]) -> Search
-    requires { ⌜ Lent s (now pages) (now lists) 2 × (length (now text) + length (now tag) ≤ limit s) ⌝ }
+    requires { ⌜ Lent s (now pages) (now lists) kinds 2 × (length (now text) + length (now tag) ≤ limit s) ⌝ }
     ensures { λ r. ⌜ FindsName s (λ a. a ≡ entered 2 (now (text .entry)) (now (tag .entry))) (now (pages .entry)) (now (lists .entry)) r ⌝ }
 {
     let h = bytes_index::hash(Mode::Tag, tag, text);
     find_key(pages, lists, s, TAGGED, h, Mode::Tag, tag, text)
 }
 
-// The local number of a name of legal shape, if it is legal, and whether it is plain. Both parts have one lifetime, since the rest may lie in either.
+// The local number of a name of legal shape, if it is legal, and whether it is ASCII. Both parts have one lifetime, since the rest may lie in either.
 pub fn find_name<'a>(
     pages: &[u8],
     lists: &[u8],
@@ -119,9 +120,9 @@ pub fn find_name<'a>(
     first: &'a [u8],
     second: &'a [u8],
 ) -> Sought
-    requires { ⌜ Lent s (now pages) (now lists) kind × (shapeRefusal s (entered kind (now first) (now second)) ≡ none) ⌝ }
+    requires { ⌜ Lent s (now pages) (now lists) kinds kind × (shapeRefusal s (entered kind (now first) (now second)) ≡ none) ⌝ }
     ensures found { λ r. ⌜ FindsName s (λ a. a ≡ entered kind (now (first .entry)) (now (second .entry))) (now (pages .entry)) (now (lists .entry)) (r .found) ⌝ }
-    ensures plain { λ r. ⌜ (r .plain ≡ true → (isText (now (first .entry)) ≡ true) × (isText (now (second .entry)) ≡ true)) ⌝ }
+    ensures ascii { λ r. ⌜ (r .ascii ≡ true → (isText (now (first .entry)) ≡ true) × (isText (now (second .entry)) ≡ true)) ⌝ }
 {
     if kind == PLAIN {
         let none = &first[..0];
@@ -129,14 +130,14 @@ pub fn find_name<'a>(
         let found = find_key(pages, lists, s, PLAIN, x.h, Mode::Raw, none, first);
         return Sought {
             found,
-            plain: x.bits < 0x80,
+            ascii: x.bits < 0x80,
         };
     }
     if kind == TAGGED {
-        // Most labels have a letter that is not plain.
+        // Most labels have a letter that is not ASCII.
         return Sought {
             found: find_tagged(pages, lists, s, first, second),
-            plain: false,
+            ascii: false,
         };
     }
     // An IRI and a typed value differ in where head and rest lie.

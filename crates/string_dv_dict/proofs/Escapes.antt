@@ -12,7 +12,7 @@ use Rattle.slices.specs.Bytes.{Bytes}
 use Rattle.slices.proofs.Tests.{Split, split}
 use Rattle.parts.specs.Parts.{escape, escaped}
 use Rattle.string_dv_dict.specs.declared.Scan.{Scan}
-use Rattle.string_dv_dict.specs.declared.Scan.the-variants.{Plain, Escape, Bad}
+use Rattle.string_dv_dict.specs.declared.Scan.the-variants.{Whole, Escape, Bad}
 use Rattle.string_dv_dict.specs.Packed.{before, behind, unescaped}
 use Rattle.string_dv_dict.specs.Scans.{scanStep, scanFrom}
 
@@ -46,69 +46,69 @@ scan-bad [] = refl
 scan-bad (c ∷ s) = scan-bad s
 
 -- An escaped tag scans to its length.
-pub scan-escaped : (t : Bytes) (n : ℕ) → scanFrom (Plain n) (escaped t) ≡ Plain (n + length t)
+pub scan-escaped : (t : Bytes) (n : ℕ) → scanFrom (Whole n) (escaped t) ≡ Whole (n + length t)
 unfolding escape escaped scanFrom
 scan-escaped [] n = let e : n + 0 ≡ n = omega arith in rw e
 scan-escaped (c ∷ t) n = go (split (eqb c 92)) (split (eqb c 62)) (scan-escaped t (n + 1))
   where
-    go : Split (eqb c 92) → Split (eqb c 62) → scanFrom (Plain (n + 1)) (escaped t) ≡ Plain (n + 1 + length t)
-        → scanFrom (Plain n) (escaped (c ∷ t)) ≡ Plain (n + suc (length t))
+    go : Split (eqb c 92) → Split (eqb c 62) → scanFrom (Whole (n + 1)) (escaped t) ≡ Whole (n + 1 + length t)
+        → scanFrom (Whole n) (escaped (c ∷ t)) ≡ Whole (n + suc (length t))
     go p q ih = let e : n + suc (length t) ≡ n + 1 + length t = omega arith in rw e (each p q)
       where
-        each : Split (eqb c 92) → Split (eqb c 62) → scanFrom (Plain n) (escaped (c ∷ t)) ≡ Plain (n + 1 + length t)
+        each : Split (eqb c 92) → Split (eqb c 62) → scanFrom (Whole n) (escaped (c ∷ t)) ≡ Whole (n + 1 + length t)
         each (inl p) q = rw p ih
         each (inr p) (inl q) = rw (p, q) ih
         each (inr p) (inr q) = rw (p, q, q, p) ih
 
--- What scans to a length is the escaped form of what it unescapes to, which has that length: plain, and behind a '\'.
-abbrev Plainly : Bytes → Type 0
-Plainly s = (n m : ℕ) → scanFrom (Plain n) s ≡ Plain m → (escaped (unescaped false s) ≡ s) × (m ≡ n + length (unescaped false s))
+-- What scans to a length is the escaped form of what it unescapes to, which has that length: outside an escape, and behind a '\'.
+abbrev Outside : Bytes → Type 0
+Outside s = (n m : ℕ) → scanFrom (Whole n) s ≡ Whole m → (escaped (unescaped false s) ≡ s) × (m ≡ n + length (unescaped false s))
 
 abbrev Behind : Bytes → Type 0
-Behind s = (n m : ℕ) → scanFrom (Escape n) s ≡ Plain m → (escaped (unescaped true s) ≡ 92 ∷ s) × (m ≡ n + length (unescaped true s))
+Behind s = (n m : ℕ) → scanFrom (Escape n) s ≡ Whole m → (escaped (unescaped true s) ≡ 92 ∷ s) × (m ≡ n + length (unescaped true s))
 
-both : (s : Bytes) → Plainly s × Behind s
+both : (s : Bytes) → Outside s × Behind s
 unfolding escape escaped unescaped scanFrom
 both [] = (λ n m e. let u : n ≡ m = cc in (refl, omega arith), λ n m e. let z : _≡_ {A = ℕ} 0 1 = cc in absurd (omega arith))
-both (c ∷ s) = (plain (both s), after (both s))
+both (c ∷ s) = (outside (both s), after (both s))
   where
-    plain : Plainly s × Behind s → Plainly (c ∷ s)
-    plain ih n m e = go (split (eqb c 62)) (split (eqb c 92))
+    outside : Outside s × Behind s → Outside (c ∷ s)
+    outside ih n m e = go (split (eqb c 62)) (split (eqb c 92))
       where
         go : Split (eqb c 62) → Split (eqb c 92) → (escaped (unescaped false (c ∷ s)) ≡ c ∷ s) × (m ≡ n + length (unescaped false (c ∷ s)))
         go (inl p) q =
-            let x : scanFrom Bad s ≡ Plain m = rw p at e in
+            let x : scanFrom Bad s ≡ Whole m = rw p at e in
             let z : _≡_ {A = ℕ} 0 1 = cc (scan-bad s) in absurd (omega arith)
         go (inr p) (inl q) =
-            let x : scanFrom (Escape n) s ≡ Plain m = rw (p, q) at e in
+            let x : scanFrom (Escape n) s ≡ Whole m = rw (p, q) at e in
             let h = ih .1 n m x in
             let k : c ≡ 92 = eqb-true c 92 q in
             rw q (rw k (h .0), h .1)
         go (inr p) (inr q) =
-            let x : scanFrom (Plain (n + 1)) s ≡ Plain m = rw (p, q) at e in
+            let x : scanFrom (Whole (n + 1)) s ≡ Whole m = rw (p, q) at e in
             let h = ih .0 (n + 1) m x in
             rw (q, q, p) (ap (λ (l : Bytes). c ∷ l) (h .0), omega (arith, h .1))
 
-    after : Plainly s × Behind s → Behind (c ∷ s)
+    after : Outside s × Behind s → Behind (c ∷ s)
     after ih n m e = go (split (eqb c 92)) (split (eqb c 97))
       where
         go : Split (eqb c 92) → Split (eqb c 97) → (escaped (unescaped true (c ∷ s)) ≡ 92 ∷ c ∷ s) × (m ≡ n + length (unescaped true (c ∷ s)))
         go (inl p) q =
-            let x : scanFrom (Plain (n + 1)) s ≡ Plain m = rw p at e in
+            let x : scanFrom (Whole (n + 1)) s ≡ Whole m = rw p at e in
             let h = ih .0 (n + 1) m x in
             let k : c ≡ 92 = eqb-true c 92 p in
             rw k (ap (λ (l : Bytes). 92 ∷ 92 ∷ l) (h .0), omega (arith, h .1))
         go (inr p) (inl q) =
-            let x : scanFrom (Plain (n + 1)) s ≡ Plain m = rw (p, q) at e in
+            let x : scanFrom (Whole (n + 1)) s ≡ Whole m = rw (p, q) at e in
             let h = ih .0 (n + 1) m x in
             let k : c ≡ 97 = eqb-true c 97 q in
             rw k (ap (λ (l : Bytes). 92 ∷ 97 ∷ l) (h .0), omega (arith, h .1))
         go (inr p) (inr q) =
-            let x : scanFrom Bad s ≡ Plain m = rw (p, q) at e in
+            let x : scanFrom Bad s ≡ Whole m = rw (p, q) at e in
             let z : _≡_ {A = ℕ} 0 1 = cc (scan-bad s) in absurd (omega arith)
 
 -- A run of bytes scans to m exactly if it is the escaped form of m bytes, which are what it unescapes to.
-pub scan-good : (s : Bytes) (m : ℕ) → scanFrom (Plain 0) s ≡ Plain m → (escaped (unescaped false s) ≡ s) × (m ≡ length (unescaped false s))
+pub scan-good : (s : Bytes) (m : ℕ) → scanFrom (Whole 0) s ≡ Whole m → (escaped (unescaped false s) ≡ s) × (m ≡ length (unescaped false s))
 scan-good s m e = let h = both s .0 0 m e in (h .0, omega (arith, h .1))
 
 -- ---- the first '>'

@@ -29,9 +29,9 @@ use Rattle.string_dv_dict.proofs.Answers.{pack-done, unpack-done}
 
 -- ---- a legal text and tag
 
-pub legal : (text tag : Bytes) → pairRefusal text tag ≡ none → LegalTagged text tag
+pub legal-tagged : (text tag : Bytes) → pairRefusal text tag ≡ none → LegalTagged text tag
 unfolding pairRefusal
-legal text tag e =
+legal-tagged text tag e =
     let p = passed (ltb nameLimit (length text + length tag)) TooLong _ e in
     let q = passed (not (isText text && isText tag)) NotText _ (p .1) in
     let r = passed (isEmpty tag) NoTag _ (q .1) in
@@ -43,9 +43,9 @@ legal text tag e =
       tagged = r .0;
     }
 
-pub filled : (x : Bytes) → length x ≢ 0 → isEmpty x ≡ false
-filled [] n = absurd (n refl)
-filled (a ∷ x) n = refl
+pub has-bytes : (x : Bytes) → length x ≢ 0 → isEmpty x ≡ false
+has-bytes [] n = absurd (n refl)
+has-bytes (a ∷ x) n = refl
 
 pub is-legal : (text tag : Bytes) → LegalTagged text tag → pairRefusal text tag ≡ none
 unfolding pairRefusal
@@ -70,7 +70,7 @@ pub pack-unpack : (text tag : Bytes) → pairRefusal text tag ≡ none
     → (accepted (packed text tag) ≡ true) × (textIn (packed text tag) ≡ text) × (tagIn (packed text tag) ≡ tag)
 unfolding accepted
 pack-unpack text tag e =
-    let b = parts-back text tag (legal text tag e .tagged) in
+    let b = parts-back text tag (legal-tagged text tag e .tagged) in
     (rw (b .0, b .1, e, bytes-same (packed text tag)), b .0, b .1)
 
 is-none : (o : Option Refusal) → isLegal o ≡ true → o ≡ none
@@ -158,7 +158,7 @@ accepted-long s e = go (unpack-pack (0 ∷ s) e) (split (leb (length (unescaped 
         let tag = unescaped false (before s) in
         let x : length tag ∷ tag ++ behind s ≡ 0 ∷ s = rw q at (u .1) in
         let y : length tag ≡ 0 = cc in
-        absurd (omega (arith, not-empty tag (legal (behind s) tag (u .0) .tagged)))
+        absurd (omega (arith, not-empty tag (legal-tagged (behind s) tag (u .0) .tagged)))
     go u (inr q) =
         let tag = unescaped false (before s) in
         let x : 0 ∷ escaped tag ++ 62 ∷ behind s ≡ 0 ∷ s = rw q at (u .1) in
@@ -187,7 +187,7 @@ pub packed-unpacks : (text tag buffer : Bytes) → pairRefusal text tag ≡ none
 packed-unpacks text tag buffer e h =
     let p = pack-unpack text tag e in
     let r : length (textIn (packed text tag)) + length (tagIn (packed text tag)) ≤ length buffer = rw (p .1, p .2) h in
-    let u = unpack-done (packed text tag) buffer (length-packed text tag (legal text tag e)) (p .0) r in
+    let u = unpack-done (packed text tag) buffer (length-packed text tag (legal-tagged text tag e)) (p .0) r in
     let a = rw (p .1, p .2) at (u .0) in
     let b = rw (p .1, p .2) at (u .1) in
     (a, b ∙ ap (λ (n : ℕ). text ++ tag ++ drop n buffer) (length-append text tag))

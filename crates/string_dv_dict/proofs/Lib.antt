@@ -4,5 +4,5 @@ pub mod Text
 pub mod Laws
 pub mod Writes
 pub mod Answers
-pub mod Located
+pub mod PackedParts
 pub mod Keys

@@ -9,7 +9,7 @@ use lib.Dec.{eqb}
 use Rattle.slices.specs.Bytes.{Bytes}
 use Rattle.slices.proofs.Tests.{Split, split}
 use Rattle.utf8.specs.Text.{isText}
-use Rattle.utf8.proofs.Laws.{text-written, Written, as-itself, as-two, eachAs}
+use Rattle.utf8.proofs.Laws.{text-written, WrittenAs, as-itself, as-two, eachAs}
 use Rattle.parts.specs.Parts.{escape, escaped}
 
 escaped-each : (t : Bytes) → escaped t ≡ eachAs escape t
@@ -17,11 +17,11 @@ unfolding escaped
 escaped-each [] = refl
 escaped-each (b ∷ t) = ap (λ (s : Bytes). escape b ++ s) (escaped-each t)
 
-written : (b : ℕ) → Written escape b
+written : (b : ℕ) → WrittenAs escape b
 unfolding escape
 written b = go (split (eqb b 92)) (split (eqb b 62))
   where
-    go : Split (eqb b 92) → Split (eqb b 62) → Written escape b
+    go : Split (eqb b 92) → Split (eqb b 62) → WrittenAs escape b
     go (inl p) q = let e : b ≡ 92 = eqb-true b 92 p in as-two 92 92 (omega arith) (omega arith) (omega arith) (rw p)
     go (inr p) (inl q) = let e : b ≡ 62 = eqb-true b 62 q in as-two 92 97 (omega arith) (omega arith) (omega arith) (rw (p, q))
     go (inr p) (inr q) = as-itself (rw (p, q))

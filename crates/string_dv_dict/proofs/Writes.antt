@@ -8,9 +8,9 @@ use lib.Seq.{sets}
 use Rattle.slices.specs.Bytes.{Bytes}
 use Rattle.parts.proofs.Laws.{sets-append, sets-front}
 
-pub two : (x y b : Bytes) → length x + length y ≤ length b
+pub two-parts : (x y b : Bytes) → length x + length y ≤ length b
     → sets (sets b 0 x) (length x) y ≡ (x ++ y) ++ drop (length (x ++ y)) b
-two x y b h =
+two-parts x y b h =
     let e : 0 + length x ≡ length x = zero-add (length x) in
     let f = sets-append x y b 0 in
     let g : sets b 0 (x ++ y) ≡ sets (sets b 0 x) (length x) y = rw e at f in

@@ -8,15 +8,15 @@ use lib.ListN.{length, take, drop}
 use Rattle.slices.specs.Bytes.{Bytes}
 use Rattle.parts.specs.Parts.{escaped}
 use Rattle.string_dv_dict.specs.declared.Scan.{Scan}
-use Rattle.string_dv_dict.specs.declared.Scan.the-variants.{Plain, Escape, Bad}
+use Rattle.string_dv_dict.specs.declared.Scan.the-variants.{Whole, Escape, Bad}
 use Rattle.string_dv_dict.specs.declared.Form.{Form}
 use Rattle.string_dv_dict.specs.declared.Form.the-variants.{Short, Long, Cut}
 use Rattle.string_dv_dict.specs.Packed.{accepted, tagIn, textIn, before}
 
 -- One more byte of an escaped tag.
 abbrev pub scanStep : Scan → ℕ → Scan
-scanStep (Plain n) c = cond (eqb c 62) Bad (cond (eqb c 92) (Escape n) (Plain (n + 1)))
-scanStep (Escape n) c = cond (eqb c 92) (Plain (n + 1)) (cond (eqb c 97) (Plain (n + 1)) Bad)
+scanStep (Whole n) c = cond (eqb c 62) Bad (cond (eqb c 92) (Escape n) (Whole (n + 1)))
+scanStep (Escape n) c = cond (eqb c 92) (Whole (n + 1)) (cond (eqb c 97) (Whole (n + 1)) Bad)
 scanStep Bad c = Bad
 
 unfoldable pub scanFrom : Scan → Bytes → Scan
@@ -24,7 +24,7 @@ scanFrom st [] = st
 scanFrom st (c ∷ s) = scanFrom (scanStep st c) s
 
 abbrev pub scanned : Scan → ℕ
-scanned (Plain n) = n
+scanned (Whole n) = n
 scanned (Escape n) = n
 scanned Bad = zero
 
@@ -32,12 +32,12 @@ scanned Bad = zero
 
 -- Behind 0: by the first '>', and the scan of what stands before it.
 abbrev pub longBy : ℕ → Scan → Form
-longBy end (Plain n) = Long end n
+longBy end (Whole n) = Long end n
 longBy end (Escape n) = Cut
 longBy end Bad = Cut
 
 unfoldable pub longSplit : Bytes → Form
-longSplit s = cond (ltb (length (before s)) (length s)) (longBy (length (before s)) (scanFrom (Plain 0) (before s))) Cut
+longSplit s = cond (ltb (length (before s)) (length s)) (longBy (length (before s)) (scanFrom (Whole 0) (before s))) Cut
 
 -- By shape alone: a tag as long as the first byte says, or behind 0 an escaped tag up to the first '>'.
 unfoldable pub splitOf : Bytes → Form

@@ -25,7 +25,7 @@ pub enum Unpacked {
 
 // The bytes of an escaped tag so far: how many bytes of the tag they are, and whether a '\' still wants its second byte.
 enum Scan {
-    Plain(usize),
+    Whole(usize),
     Escape(usize),
     Bad,
 }
@@ -59,7 +59,7 @@ pub fn check_pair(text: &[u8], tag: &[u8]) -> Checked
 // ---- packing
 
 // Writes the stored bytes at `at`.
-fn write_at(mode: Mode, s: &[u8], dst: &mut [u8], at: usize)
+fn write_stored(mode: Mode, s: &[u8], dst: &mut [u8], at: usize)
     requires { ⌜ at + length (bytesOf mode (now s)) ≤ length (now dst) ⌝ }
     ensures { λ _. ⌜ now (dst .exit) ≡ sets (now (dst .entry)) at (bytesOf mode (now (s .entry))) ⌝ }
 {
@@ -79,8 +79,8 @@ pub fn two_strings_to_one(text: &[u8], tag: &[u8], buffer: &mut [u8]) -> Written
     if buffer.len() < n {
         return Written::Refused(Refusal::ShortBuffer);
     }
-    write_at(Mode::Tag, tag, buffer, 0);
-    write_at(Mode::Raw, text, buffer, m);
+    write_stored(Mode::Tag, tag, buffer, 0);
+    write_stored(Mode::Raw, text, buffer, m);
     Written::Length(n)
 }
 
@@ -105,21 +105,21 @@ fn scan_byte(state: Scan, c: u8) -> Scan
     ensures { λ r. ⌜ r ≡ scanStep state c ⌝ }
 {
     match state {
-        Scan::Plain(n) => {
+        Scan::Whole(n) => {
             if c == b'>' {
                 return Scan::Bad;
             }
             if c == b'\\' {
                 return Scan::Escape(n);
             }
-            Scan::Plain(n + 1)
+            Scan::Whole(n + 1)
         }
         Scan::Escape(n) => {
             if c == b'\\' {
-                return Scan::Plain(n + 1);
+                return Scan::Whole(n + 1);
             }
             if c == b'a' {
-                return Scan::Plain(n + 1);
+                return Scan::Whole(n + 1);
             }
             Scan::Bad
         }
@@ -128,9 +128,9 @@ fn scan_byte(state: Scan, c: u8) -> Scan
 }
 
 fn scan_tag(s: &[u8]) -> Scan
-    ensures { λ r. ⌜ r ≡ scanFrom (Scan.Plain 0) (now (s .entry)) ⌝ }
+    ensures { λ r. ⌜ r ≡ scanFrom (Scan.Whole 0) (now (s .entry)) ⌝ }
 {
-    let mut state = Scan::Plain(0);
+    let mut state = Scan::Whole(0);
     let mut i = 0;
     while i < s.len() {
         state = scan_byte(state, s[i]);
@@ -147,7 +147,7 @@ fn split_long(s: &[u8]) -> Form
     if end == s.len() {
         return Form::Cut;
     }
-    let Scan::Plain(n) = scan_tag(&s[..end]) else {
+    let Scan::Whole(n) = scan_tag(&s[..end]) else {
         return Form::Cut;
     };
     Form::Long(end, n)
@@ -170,7 +170,7 @@ pub fn split(form: &[u8]) -> Form
     Form::Short(n)
 }
 
-fn locate_short(form: &[u8], n: usize) -> Form
+fn check_short(form: &[u8], n: usize) -> Form
     requires { ⌜ ShortForm (now form) n ⌝ }
     ensures { λ r. ⌜ r ≡ formOf (now (form .entry)) ⌝ }
 {
@@ -184,7 +184,7 @@ fn locate_short(form: &[u8], n: usize) -> Form
     Form::Short(n)
 }
 
-fn locate_long(form: &[u8], end: usize, n: usize) -> Form
+fn check_long(form: &[u8], end: usize, n: usize) -> Form
     requires { ⌜ LongForm (now form) end n ⌝ }
     ensures { λ r. ⌜ r ≡ formOf (now (form .entry)) ⌝ }
 {
@@ -206,12 +206,12 @@ fn locate_long(form: &[u8], end: usize, n: usize) -> Form
 }
 
 // Where the parts of a packed form lie; Cut where packing makes no such form.
-fn locate(form: &[u8]) -> Form
+fn split_packed(form: &[u8]) -> Form
     ensures { λ r. ⌜ r ≡ formOf (now (form .entry)) ⌝ }
 {
     match split(form) {
-        Form::Short(n) => locate_short(form, n),
-        Form::Long(end, n) => locate_long(form, end, n),
+        Form::Short(n) => check_short(form, n),
+        Form::Long(end, n) => check_long(form, end, n),
         Form::Cut => Form::Cut,
     }
 }
@@ -256,8 +256,8 @@ fn unpack_short(form: &[u8], n: usize, buffer: &mut [u8]) -> Unpacked
     if buffer.len() < m + n {
         return Unpacked::Refused(Refusal::ShortBuffer);
     }
-    write_at(Mode::Raw, text, buffer, 0);
-    write_at(Mode::Raw, &form[1..n + 1], buffer, m);
+    write_stored(Mode::Raw, text, buffer, 0);
+    write_stored(Mode::Raw, &form[1..n + 1], buffer, m);
     Unpacked::Lengths { text: m, tag: n }
 }
 
@@ -270,7 +270,7 @@ fn unpack_long(form: &[u8], end: usize, n: usize, buffer: &mut [u8]) -> Unpacked
     if buffer.len() < m + n {
         return Unpacked::Refused(Refusal::ShortBuffer);
     }
-    write_at(Mode::Raw, text, buffer, 0);
+    write_stored(Mode::Raw, text, buffer, 0);
     write_unescaped(&form[1..end + 1], buffer, m);
     Unpacked::Lengths { text: m, tag: n }
 }
@@ -282,7 +282,7 @@ pub fn one_string_to_two(form: &[u8], buffer: &mut [u8]) -> Unpacked
     if Sizes::PACKED_LIMIT < form.len() {
         return Unpacked::Refused(Refusal::TooLong);
     }
-    match locate(form) {
+    match split_packed(form) {
         Form::Short(n) => unpack_short(form, n, buffer),
         Form::Long(end, n) => unpack_long(form, end, n, buffer),
         Form::Cut => Unpacked::Refused(Refusal::CutForm),

@@ -14,7 +14,7 @@ use Rattle.slices.proofs.Tests.{and-left, and-right}
 use Rattle.utf8.specs.declared.Step.{Step}
 use Rattle.utf8.specs.declared.Step.the-variants.{Due, Bad}
 use Rattle.utf8.specs.Grammar.{In}
-use Rattle.utf8.specs.Text.{within, between, firstOf, after, noneDue, textFrom}
+use Rattle.utf8.specs.Text.{within, charStart, firstOf, after, noneDue, textFrom}
 
 -- ---- the test of bounds
 
@@ -37,7 +37,7 @@ bounds lo hi b e =
 
 -- ---- the first byte of a character
 
-pub first-one : (b : ℕ) → In 0x00 0x7F b → firstOf b ≡ between
+pub first-one : (b : ℕ) → In 0x00 0x7F b → firstOf b ≡ charStart
 unfolding firstOf
 first-one b p = rw (inside 0x00 0x7F b p)
 
@@ -130,7 +130,7 @@ pub text-end : (x : Step) (i : ℕ) (s : Bytes) → length s ≤ i → textFrom 
 text-end x i s h = rw (drop-of-length-le s h)
 
 -- With nothing due it is no matter what would be.
-pub none-due : (n lo hi : ℕ) → eqb n 0 ≡ true → (s : Bytes) → textFrom (Due n lo hi) s ≡ textFrom between s
+pub none-due : (n lo hi : ℕ) → eqb n 0 ≡ true → (s : Bytes) → textFrom (Due n lo hi) s ≡ textFrom charStart s
 none-due n lo hi e [] = e
 none-due n lo hi e (b ∷ s) =
     let p : after (Due n lo hi) b ≡ firstOf b = rw e in

@@ -11,7 +11,7 @@ use Rattle.slices.proofs.Tests.{clash}
 use Rattle.utf8.specs.declared.Step.{Step}
 use Rattle.utf8.specs.declared.Step.the-variants.{Due, Bad}
 use Rattle.utf8.specs.Grammar.{In, Tail, Char, one, two, three-e0, three-e1-ec, three-ed, three-ee-ef, four-f0, four-f1-f3, four-f4, Octets, none, more}
-use Rattle.utf8.specs.Text.{within, between, firstOf, after, textFrom, isText}
+use Rattle.utf8.specs.Text.{within, charStart, firstOf, after, textFrom, isText}
 use Rattle.utf8.proofs.Bounds.{inside, below, above, bounds, first-one, first-two, first-e1-ec, first-ee-ef, first-f1-f3, choose, bad-stays}
 
 -- ---- accepted, so derived
@@ -74,13 +74,13 @@ derives s e = octets (derives-from s 0 0x80 0xBF e)
 
 -- ---- derived, so accepted
 
-tail-1 : (lo hi b : ℕ) → In lo hi b → after (Due 1 lo hi) b ≡ between
+tail-1 : (lo hi b : ℕ) → In lo hi b → after (Due 1 lo hi) b ≡ charStart
 tail-1 lo hi b q = rw (inside lo hi b q)
 
-tail-2 : (lo hi b c : ℕ) → In lo hi b → Tail c → after (after (Due 2 lo hi) b) c ≡ between
+tail-2 : (lo hi b c : ℕ) → In lo hi b → Tail c → after (after (Due 2 lo hi) b) c ≡ charStart
 tail-2 lo hi b c q u = rw (inside lo hi b q) (tail-1 0x80 0xBF c u)
 
-tail-3 : (lo hi b c d : ℕ) → In lo hi b → Tail c → Tail d → after (after (after (Due 3 lo hi) b) c) d ≡ between
+tail-3 : (lo hi b c d : ℕ) → In lo hi b → Tail c → Tail d → after (after (after (Due 3 lo hi) b) c) d ≡ charStart
 tail-3 lo hi b c d q u v = rw (inside lo hi b q) (tail-2 0x80 0xBF c d u v)
 
 -- A character leaves nothing due.
@@ -100,17 +100,17 @@ char-text (four-f1-f3 {a} {b} {c} {d} p q u v) s =
     (ap (λ (x : Step). after (after (after x b) c) d) (first-f1-f3 a p) ∙ tail-3 _ _ b c d q u v)
 char-text (four-f4 {b} {c} {d} q u v) s = ap (λ (x : Step). textFrom x s) (tail-3 0x80 0x8F b c d q u v)
 
-pub accepted : {s : Bytes} → Octets s → isText s ≡ true
+pub derived-is-text : {s : Bytes} → Octets s → isText s ≡ true
 unfolding isText
-accepted none = refl
-accepted (more {c} {s} h r) = char-text h s ∙ accepted r
+derived-is-text none = refl
+derived-is-text (more {c} {s} h r) = char-text h s ∙ derived-is-text r
 
 -- ---- what the grammar is known to rule out
 
 -- Bytes that no character begins with derive nothing, whatever follows.
 refused : (a b : ℕ) (s : Bytes) → after (firstOf a) b ≡ Bad → Octets (a ∷ b ∷ s) → ⊥
 unfolding isText
-refused a b s e o = false≢true (sym (ap (λ (x : Step). textFrom x s) e ∙ bad-stays s) ∙ accepted o)
+refused a b s e o = false≢true (sym (ap (λ (x : Step). textFrom x s) e ∙ bad-stays s) ∙ derived-is-text o)
 
 -- U+D800 to U+DFFF.
 pub no-surrogate : (b : ℕ) (s : Bytes) → 0xA0 ≤ b → Octets (0xED ∷ b ∷ s) → ⊥

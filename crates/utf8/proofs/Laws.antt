@@ -9,7 +9,7 @@ use Rattle.slices.specs.Bytes.{Bytes}
 use Rattle.slices.proofs.Tests.{Split, split}
 use Rattle.utf8.specs.declared.Step.{Step}
 use Rattle.utf8.specs.declared.Step.the-variants.{Due, Bad}
-use Rattle.utf8.specs.Text.{within, between, firstOf, after, textFrom, isText}
+use Rattle.utf8.specs.Text.{within, charStart, firstOf, after, textFrom, isText}
 use Rattle.utf8.proofs.Bounds.{below, first-one, choose}
 
 -- ---- some bytes written as two
@@ -19,9 +19,9 @@ eachAs f [] = []
 eachAs f (b ∷ s) = f b ++ eachAs f s
 
 -- How f may write the byte b: as itself, or, where it is a character of its own, as two such characters.
-pub data Written (f : ℕ → Bytes) (b : ℕ) : Type 0 where
-  as-itself : f b ≡ b ∷ [] → Written f b
-  as-two : (x y : ℕ) → b ≤ 0x7F → x ≤ 0x7F → y ≤ 0x7F → f b ≡ x ∷ y ∷ [] → Written f b
+pub data WrittenAs (f : ℕ → Bytes) (b : ℕ) : Type 0 where
+  as-itself : f b ≡ b ∷ [] → WrittenAs f b
+  as-two : (x y : ℕ) → b ≤ 0x7F → x ≤ 0x7F → y ≤ 0x7F → f b ≡ x ∷ y ∷ [] → WrittenAs f b
 
 -- No tail byte that may be due is a character of its own.
 abbrev High : Step → Type 0
@@ -54,12 +54,12 @@ single (Due n lo hi) h b y z p q r = go (split (eqb n 0))
     go (inl e) = rw (e, first-one y (omega arith), first-one z (omega arith), first-one b (omega arith))
     go (inr e) = rw (e, below lo hi y (omega arith), below lo hi b (omega arith))
 
-written-from : (f : ℕ → Bytes) → ((b : ℕ) → Written f b) → (t : Bytes) (x : Step) → High x
+written-from : (f : ℕ → Bytes) → ((b : ℕ) → WrittenAs f b) → (t : Bytes) (x : Step) → High x
     → textFrom x (eachAs f t) ≡ textFrom x t
 written-from f w [] x h = refl
 written-from f w (b ∷ t) x h = go (w b) (written-from f w t (after x b) (high-after x b))
   where
-    go : Written f b → textFrom (after x b) (eachAs f t) ≡ textFrom (after x b) t
+    go : WrittenAs f b → textFrom (after x b) (eachAs f t) ≡ textFrom (after x b) t
         → textFrom x (f b ++ eachAs f t) ≡ textFrom (after x b) t
     go (as-itself e) ih = ap (λ (l : Bytes). textFrom x (l ++ eachAs f t)) e ∙ ih
     go (as-two y z p q r e) ih =
@@ -67,6 +67,6 @@ written-from f w (b ∷ t) x h = go (w b) (written-from f w t (after x b) (high-
         ∙ ap (λ (m : Step). textFrom m (eachAs f t)) (single x h b y z p q r)
         ∙ ih
 
-pub text-written : (f : ℕ → Bytes) → ((b : ℕ) → Written f b) → (t : Bytes) → isText (eachAs f t) ≡ isText t
+pub text-written : (f : ℕ → Bytes) → ((b : ℕ) → WrittenAs f b) → (t : Bytes) → isText (eachAs f t) ≡ isText t
 unfolding isText
-text-written f w t = written-from f w t between (omega arith)
+text-written f w t = written-from f w t charStart (omega arith)

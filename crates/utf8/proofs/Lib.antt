@@ -2,5 +2,5 @@
 pub mod Bounds
 pub mod Grammar
 pub mod Laws
-pub mod Plain
+pub mod Ascii
 pub mod Runs

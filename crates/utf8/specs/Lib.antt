@@ -1,3 +1,3 @@
 pub mod Grammar
 pub mod Text
-pub mod Plain
+pub mod Passing

@@ -10,13 +10,13 @@ use Rattle.utf8.specs.declared.Step.{Step}
 use Rattle.utf8.specs.declared.Step.the-variants.{Due, Bad}
 
 -- `Due n lo hi`: n tail bytes of a character are due, the next one from lo to hi. Between two characters none are.
-abbrev pub between : Step
-between = Due 0 0x80 0xBF
+abbrev pub charStart : Step
+charStart = Due 0 0x80 0xBF
 
 -- What the first byte of a character leaves due.
 unfoldable pub firstOf : ℕ → Step
 firstOf b =
-    cond (within 0x00 0x7F b) between
+    cond (within 0x00 0x7F b) charStart
     (cond (within 0xC2 0xDF b) (Due 1 0x80 0xBF)
     (cond (eqb b 0xE0) (Due 2 0xA0 0xBF)
     (cond (within 0xE1 0xEC b) (Due 2 0x80 0xBF)
@@ -41,4 +41,4 @@ textFrom x [] = noneDue x
 textFrom x (b ∷ s) = textFrom (after x b) s
 
 unfoldable pub isText : Bytes → Bool
-isText s = textFrom between s
+isText s = textFrom charStart s

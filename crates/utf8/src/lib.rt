@@ -4,7 +4,7 @@ ghost use mathlib.Core.Path.{_≡_};
 ghost use Prim.Native.Nat.{_+_, _≤_, _<_};
 ghost use lib.ListN.{length, take, drop};
 ghost use Rattle.utf8.specs.Text.{within, firstOf, after, isText};
-ghost use Rattle.utf8.specs.Plain.{plain, two, three, Passed, Ends};
+ghost use Rattle.utf8.specs.Passing.{ascii, isTwo, isThree, Passed, Ends};
 
 // What the bytes read so far ask of the next one.
 pub enum Step {
@@ -85,15 +85,15 @@ fn char_end(s: &[u8], i: usize) -> End
     End::At(k)
 }
 
-// Whether the eight bytes from i on are plain. A plain byte, a character by itself, has no top bit.
-fn is_plain(s: &[u8], i: usize) -> bool
+// Whether the eight bytes from i on are ASCII. An ASCII byte, a character by itself, has no top bit.
+fn is_ascii(s: &[u8], i: usize) -> bool
     requires { ⌜ i + 8 ≤ length (now s) ⌝ }
-    ensures { λ r. ⌜ r ≡ plain (take 8 (drop i (now (s .entry)))) ⌝ }
+    ensures { λ r. ⌜ r ≡ ascii (take 8 (drop i (now (s .entry)))) ⌝ }
 {
     words::word_from(s, i) & TOP_BITS == 0
 }
 
-// Past plain bytes from i on, eight at a time. The last eight may begin before what is left.
+// Past ASCII bytes from i on, eight at a time. The last eight may begin before what is left.
 fn pass_words(s: &[u8], i: usize) -> usize
     requires { ⌜ i ≤ length (now s) ⌝ }
     ensures { λ r. ⌜ Passed (now (s .entry)) i r ⌝ }
@@ -101,7 +101,7 @@ fn pass_words(s: &[u8], i: usize) -> usize
     let n = s.len();
     let mut k = i;
     while 8 <= n - k {
-        if !is_plain(s, k) {
+        if !is_ascii(s, k) {
             return k;
         }
         k += 8;
@@ -109,10 +109,10 @@ fn pass_words(s: &[u8], i: usize) -> usize
     if n < 8 {
         return k;
     }
-    if is_plain(s, n - 8) { n } else { k }
+    if is_ascii(s, n - 8) { n } else { k }
 }
 
-// Past plain bytes from i on, one at a time.
+// Past ASCII bytes from i on, one at a time.
 fn pass_bytes(s: &[u8], i: usize) -> usize
     requires { ⌜ i ≤ length (now s) ⌝ }
     ensures { λ r. ⌜ Passed (now (s .entry)) i r ⌝ }
@@ -127,8 +127,8 @@ fn pass_bytes(s: &[u8], i: usize) -> usize
     k
 }
 
-// Past plain bytes from i on. Where the next byte is not plain no word is looked at: in many scripts one such character follows another.
-fn pass_plain(s: &[u8], i: usize) -> usize
+// Past ASCII bytes from i on. Where the next byte is not ASCII no word is looked at: in many scripts one such character follows another.
+fn pass_ascii(s: &[u8], i: usize) -> usize
     requires { ⌜ i ≤ length (now s) ⌝ }
     ensures { λ r. ⌜ Passed (now (s .entry)) i r ⌝ }
 {
@@ -149,14 +149,14 @@ fn is_within(lo: u8, hi: u8, b: u8) -> bool
 
 // Whether two bytes are a character: first bytes C2 to DF have one tail byte.
 fn is_two(a: u8, b: u8) -> bool
-    ensures { λ r. ⌜ r ≡ two a b ⌝ }
+    ensures { λ r. ⌜ r ≡ isTwo a b ⌝ }
 {
     is_within(0xC2, 0xDF, a) && is_within(0x80, 0xBF, b)
 }
 
 // Whether three bytes are a character, by a first byte from E1 to EC, which bounds no tail byte further.
 fn is_three(a: u8, b: u8, c: u8) -> bool
-    ensures { λ r. ⌜ r ≡ three a b c ⌝ }
+    ensures { λ r. ⌜ r ≡ isThree a b c ⌝ }
 {
     is_within(0xE1, 0xEC, a) && is_within(0x80, 0xBF, b) && is_within(0x80, 0xBF, c)
 }
@@ -201,17 +201,17 @@ pub fn is_text(s: &[u8]) -> bool
     if s.len() == 0 {
         return true;
     }
-    let mut i = pass_plain(s, 0);
+    let mut i = pass_ascii(s, 0);
     while i < s.len() {
-        // Most characters that are not plain have two or three bytes; the rest are taken one by one.
+        // Most characters that are not ASCII have two or three bytes; the rest are taken one by one.
         let j = pass_threes(s, pass_twos(s, i));
         if i < j {
-            i = pass_plain(s, j);
+            i = pass_ascii(s, j);
         } else {
             let End::At(k) = char_end(s, i) else {
                 return false;
             };
-            i = pass_plain(s, k);
+            i = pass_ascii(s, k);
         }
     }
     true

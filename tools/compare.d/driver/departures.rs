@@ -67,35 +67,35 @@ fn stopping(total: &mut Total) {
 /// stops with its lock taken, and dropping its buffers would wait for the lock for ever.
 pub fn full_page() {
     std::panic::set_hook(Box::new(|_| std::process::exit(101)));
-    let mut book = theirs::book(24);
+    let mut dictionary = theirs::dictionary(24);
     for n in 0..8388 {
-        book.add(1, &format!("{n:04000}"), "");
+        dictionary.add(1, &format!("{n:04000}"), "");
     }
-    book.add(1, &"a".repeat((1 << 25) - 8388 * 4000), "");
+    dictionary.add(1, &"a".repeat((1 << 25) - 8388 * 4000), "");
     println!("full");
-    book.add(1, "", "");
+    dictionary.add(1, "", "");
 }
 
 fn empty_read_back() -> bool {
     let sizes = Sizes { page_width: 13, pages: 1, list: 8, width: 4, blocks: 4 };
-    let mut book = ours::Book::open(sizes, ours::Book::none());
+    let mut dictionary = ours::Dictionary::open(sizes, ours::Dictionary::none());
     for (byte, length) in [(b'a', 4000), (b'b', 4000), (b'c', 192), (b'd', 0)] {
-        book.add(1, &vec![byte; length], b"");
+        dictionary.add(1, &vec![byte; length], b"");
     }
     let name = ours::Name { refusal: 0, word: 4, kind: 1, first_len: 0, second_len: 0 };
-    book.read(3, &mut [0; 8]) == name && book.count(1).count == 4
+    dictionary.read(3, &mut [0; 8]) == name && dictionary.count(1).count == 4
 }
 
 fn sizes(total: &mut Total) {
     let sizes = Sizes { page_width: 13, pages: 1, list: 1, width: 4, blocks: 1 };
-    let mut book = ours::Book::open(sizes, ours::Book::none());
-    let mut original = theirs::book(4);
+    let mut dictionary = ours::Dictionary::open(sizes, ours::Dictionary::none());
+    let mut original = theirs::dictionary(4);
     let long = "a".repeat(4001);
-    let taken = original.add(1, &long, "") == (true, 0) && book.add(1, long.as_bytes(), b"").refusal == 5;
+    let taken = original.add(1, &long, "") == (true, 0) && dictionary.add(1, long.as_bytes(), b"").refusal == 5;
     show(total, "a name over 4,000 bytes is taken; here 5", taken);
-    let pair = original.add(0, "a/b", "") == (true, 16) && book.add(0, b"a/b", b"").refusal == 9;
-    show(total, "pages grow; here 9 with one page for a head and a pair", pair && book.find(0, b"a/b", b"").word == 0);
-    book.add(1, b"a", b"");
-    let full = original.add(1, "b", "") == (true, 1) && book.add(1, b"b", b"").refusal == 8;
+    let pair = original.add(0, "a/b", "") == (true, 16) && dictionary.add(0, b"a/b", b"").refusal == 9;
+    show(total, "pages grow; here 9 with one page for a head and a pair", pair && dictionary.find(0, b"a/b", b"").word == 0);
+    dictionary.add(1, b"a", b"");
+    let full = original.add(1, "b", "") == (true, 1) && dictionary.add(1, b"b", b"").refusal == 8;
     show(total, "lists grow; here 8 with E 1", full);
 }

@@ -37,7 +37,7 @@ const LETTERS: [&str; 7] = ["a", "/", "#", "\\", ">", "é", "\0"];
 /// Every name of up to 5 letters together, of every kind and every border of its parts: not found, added, found, read, added again.
 fn short_names(total: &mut Total) {
     let sizes = Sizes { page_width: 16, pages: 64, list: 131_072, width: 11, blocks: 4096 };
-    let mut run = Run::new(total, sizes, true, "short names", ours::Book::none());
+    let mut run = Run::new(total, sizes, true, "short names", ours::Dictionary::none());
     let all = strings(&LETTERS, 5);
     for again in [false, true] {
         for s in &all {
@@ -77,7 +77,7 @@ fn short_lists(total: &mut Total) {
         (3, "", "a"),
     ];
     let sizes = Sizes { page_width: 13, pages: 6, list: 5, width: 4, blocks: 4 };
-    let mut memory = ours::Book::none();
+    let mut memory = ours::Dictionary::none();
     for length in 0..=5 {
         for code in 0..11usize.pow(length) {
             let mut run = Run::new(total, sizes, true, "short lists", memory);
@@ -106,7 +106,7 @@ fn short_lists(total: &mut Total) {
 /// Every order in which the kinds can fill up to 6 blocks of 16, and then one name more of each kind; every number read.
 fn block_orders(total: &mut Total) {
     let sizes = Sizes { page_width: 13, pages: 16, list: 120, width: 4, blocks: 40 };
-    let mut memory = ours::Book::none();
+    let mut memory = ours::Dictionary::none();
     for length in 0..=6 {
         for code in 0..4usize.pow(length) {
             let mut run = Run::new(total, sizes, true, "block orders", memory);
@@ -233,7 +233,7 @@ fn random_sizes(random: &mut Random) -> Sizes {
 
 fn random_lists(total: &mut Total) {
     let mut random = Random(1);
-    let mut memory = ours::Book::none();
+    let mut memory = ours::Dictionary::none();
     for _ in 0..3000 {
         let sizes = random_sizes(&mut random);
         let mut run = Run::new(total, sizes, false, "random", memory);
@@ -292,7 +292,7 @@ fn some_number(random: &mut Random, numbers: &[u64], sizes: Sizes) -> u64 {
 /// Past 64 and past 16,384 heads, of both kinds of pairs; names before and behind each border again and again.
 fn many_heads(total: &mut Total) {
     let sizes = Sizes { page_width: 20, pages: 16, list: 40_000, width: 9, blocks: 4096 };
-    let mut memory = ours::Book::none();
+    let mut memory = ours::Dictionary::none();
     for order in 0..3 {
         let mut run = Run::new(total, sizes, true, "many heads", memory);
         for n in 0..16_500usize {
@@ -325,7 +325,7 @@ fn head_name(run: &mut Run, kind: u64, n: usize, rest: &str) {
 /// Pages of 8,192 bytes filled to one byte less, exactly, and one byte more than is left; empty names after each.
 fn page_edges(total: &mut Total) {
     let mut random = Random(3);
-    let mut memory = ours::Book::none();
+    let mut memory = ours::Dictionary::none();
     for _ in 0..600 {
         let pages = random.within(1, 14) as u64;
         let sizes = Sizes { page_width: 13, pages, list: 200, width: 4, blocks: 100 };
@@ -370,7 +370,7 @@ fn page_edges(total: &mut Total) {
 /// Tags of 1 to 300 bytes of every make, with texts that could be taken for a part of the tag.
 fn tag_lengths(total: &mut Total) {
     let sizes = Sizes { page_width: 16, pages: 400, list: 40_000, width: 12, blocks: 200 };
-    let mut run = Run::new(total, sizes, true, "tag lengths", ours::Book::none());
+    let mut run = Run::new(total, sizes, true, "tag lengths", ours::Dictionary::none());
     let makes = ["a", "\\", ">", "\\a", "\\\\", ">\\", "é", "\0", "a>"];
     for length in 1..=300 {
         for make in makes {
@@ -391,7 +391,7 @@ fn tag_lengths(total: &mut Total) {
 
 /// As many names as a list can hold, in blocks of 2^16 to 2^19, and one block from each other kind.
 fn largest(total: &mut Total) {
-    let mut memory = ours::Book::none();
+    let mut memory = ours::Dictionary::none();
     for (kind, width) in [(1, 19), (0, 18), (3, 17), (2, 16)] {
         let sizes = Sizes { page_width: 20, pages: 64, list: 1_048_576, width, blocks: 256 };
         let mut run = Run::new(total, sizes, false, "largest", memory);

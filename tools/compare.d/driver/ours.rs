@@ -75,14 +75,14 @@ pub struct Sizes {
     pub blocks: u64,
 }
 
-pub struct Book {
+pub struct Dictionary {
     pages: Vec<u8>,
     lists: Vec<u8>,
 }
 
-impl Book {
-    /// A book in memory that was lent before; grows it where needed.
-    pub fn open(sizes: Sizes, mut old: Book) -> Book {
+impl Dictionary {
+    /// A dictionary in memory that was lent before; grows it where needed.
+    pub fn open(sizes: Sizes, mut old: Dictionary) -> Dictionary {
         let pages = (sizes.pages as usize) << sizes.page_width;
         let lists = 8 * (64 + sizes.pages + 18 * sizes.list + 5 * sizes.blocks) as usize;
         old.pages.resize(pages, 0xA5);
@@ -104,8 +104,8 @@ impl Book {
         old
     }
 
-    pub fn none() -> Book {
-        Book { pages: Vec::new(), lists: Vec::new() }
+    pub fn none() -> Dictionary {
+        Dictionary { pages: Vec::new(), lists: Vec::new() }
     }
 
     pub fn add(&mut self, kind: u64, first: &[u8], second: &[u8]) -> Numbered {

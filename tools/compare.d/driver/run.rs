@@ -44,8 +44,8 @@ impl Total {
 
 pub struct Run<'a> {
     pub total: &'a mut Total,
-    ours: ours::Book,
-    theirs: Box<dyn theirs::Book>,
+    ours: ours::Dictionary,
+    theirs: Box<dyn theirs::Dictionary>,
     /// A legal name that is refused counts as a mismatch.
     roomy: bool,
     label: String,
@@ -53,12 +53,12 @@ pub struct Run<'a> {
 }
 
 impl<'a> Run<'a> {
-    pub fn new(total: &'a mut Total, sizes: ours::Sizes, roomy: bool, label: &str, memory: ours::Book) -> Run<'a> {
+    pub fn new(total: &'a mut Total, sizes: ours::Sizes, roomy: bool, label: &str, memory: ours::Dictionary) -> Run<'a> {
         total.lists += 1;
         Run {
             total,
-            ours: ours::Book::open(sizes, memory),
-            theirs: theirs::book(sizes.width),
+            ours: ours::Dictionary::open(sizes, memory),
+            theirs: theirs::dictionary(sizes.width),
             roomy,
             label: format!("{label} {sizes:?}"),
             buffer: vec![0; 4000],
@@ -66,7 +66,7 @@ impl<'a> Run<'a> {
     }
 
     /// Gives the memory back.
-    pub fn end(self) -> ours::Book {
+    pub fn end(self) -> ours::Dictionary {
         self.ours
     }
 

@@ -5,13 +5,13 @@ use crate::random::Random;
 use crate::theirs;
 
 struct List {
-    book: Box<dyn theirs::Book>,
+    dictionary: Box<dyn theirs::Dictionary>,
     lines: Vec<Vec<u8>>,
 }
 
 impl List {
     fn new() -> List {
-        List { book: theirs::book(4), lines: Vec::new() }
+        List { dictionary: theirs::dictionary(4), lines: Vec::new() }
     }
 
     fn line(&mut self, call: char, kind: usize, word: char, number: u64, first: &str, second: &str) {
@@ -20,13 +20,13 @@ impl List {
     }
 
     fn add(&mut self, kind: usize, first: &str, second: &str) -> u64 {
-        let (fresh, number) = self.book.add(kind, first, second);
+        let (fresh, number) = self.dictionary.add(kind, first, second);
         self.line('+', kind, if fresh { 'f' } else { 'k' }, number, first, second);
         number
     }
 
     fn find(&mut self, kind: usize, first: &str, second: &str) {
-        match self.book.find(kind, first, second) {
+        match self.dictionary.find(kind, first, second) {
             Some(number) => self.line('?', kind, 'k', number, first, second),
             None => self.line('?', kind, '-', 0, first, second),
         }
@@ -34,7 +34,7 @@ impl List {
 
     /// A long tag comes escaped from the original; such a name is not read here.
     fn read(&mut self, number: u64) {
-        match self.book.read(number) {
+        match self.dictionary.read(number) {
             Some((0, head, rest)) => self.line('<', 0, 'n', number, &(head + &rest), ""),
             Some((2, form, _)) => {
                 let (text, tag) = theirs::unpack(&form).unwrap();
@@ -49,7 +49,7 @@ impl List {
 
     fn counts(&mut self) {
         for kind in 0..4 {
-            let count = self.book.count(kind);
+            let count = self.dictionary.count(kind);
             self.line('#', kind, 'n', count, "", "");
         }
     }

@@ -1,5 +1,5 @@
 //! The original, compiled once for each width of a block.
-pub trait Book {
+pub trait Dictionary {
     fn add(&mut self, kind: usize, first: &str, second: &str) -> (bool, u64);
     fn find(&self, kind: usize, first: &str, second: &str) -> Option<u64>;
     fn read(&self, number: u64) -> Option<(usize, String, String)>;
@@ -8,7 +8,7 @@ pub trait Book {
 
 macro_rules! widths {
     ($($width:literal $nemo:ident),*) => {
-        $(impl Book for $nemo::oracle::Book {
+        $(impl Dictionary for $nemo::oracle::Dictionary {
             fn add(&mut self, kind: usize, first: &str, second: &str) -> (bool, u64) {
                 self.add(kind, first, second)
             }
@@ -23,11 +23,11 @@ macro_rules! widths {
             }
         })*
 
-        pub fn book(width: u64) -> Box<dyn Book> {
+        pub fn dictionary(width: u64) -> Box<dyn Dictionary> {
             match width {
                 $($width => {
                     assert_eq!($nemo::oracle::width(), $width);
-                    Box::new($nemo::oracle::Book::new())
+                    Box::new($nemo::oracle::Dictionary::new())
                 })*
                 _ => panic!("no such width"),
             }

@@ -1,5 +1,5 @@
 -- The word put is the page's own with another used part. Assumes nothing.
-use Rattle.bytes_buffer.specs.Spots.{extended}
+use Rattle.bytes_buffer.specs.Spots.{extendedPage}
 use borrow.Author.Needs.{needs}
 use Rattle.bytes_buffer.proofs.extend.Statement.{statement}
 use Rattle.bytes_buffer.proofs.extend.Tie as tie
@@ -32,7 +32,7 @@ same-length : tie.Need-same-length
 same-length c = search needs
 
 returns : tie.Need-returns
-unfolding extended
+unfolding extendedPage
 returns c = cc
 
 pub extend-spec : {M : Type 1} → statement M

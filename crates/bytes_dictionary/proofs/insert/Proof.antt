@@ -5,7 +5,7 @@ use native.Mathlib.Omega.{arith}
 use lib.ListN.{length}
 use Rattle.layout.specs.Sizes.{pageSize, listBytes}
 use Rattle.layout.proofs.Ranges.{page-size}
-use Rattle.bytes_index.specs.Search.{keyOf}
+use Rattle.bytes_index.specs.Search.{keyBytes}
 use Rattle.bytes_dictionary.specs.declared.Room.the-variants.{At}
 use Rattle.bytes_dictionary.specs.Written.{roomOf, IsSpot}
 use Rattle.bytes_dictionary.proofs.Keys.{length-key}
@@ -23,7 +23,7 @@ found c = sym (c .before .before .room-at .ensures) ∙ c .page .given .1
 
 fits : (c : tie.After-page) →
     let a = start c .args in
-    (c .page .given .0 .0 < a .s .n) × (c .page .given .0 .1 .0 + length (keyOf (a .mode) (a .front .now) (a .rest .now)) ≤ pageSize (a .s))
+    (c .page .given .0 .0 < a .s .n) × (c .page .given .0 .1 .0 + length (keyBytes (a .mode) (a .front .now) (a .rest .now)) ≤ pageSize (a .s))
 fits c = let z = start c in room-fits (z .args .s) _ (z .args .spot) _ _ (z .pre .1 .0) (found c)
 
 -- The key's length is the sum that is computed, and the key ends in its page.
@@ -31,7 +31,7 @@ sized : (c : tie.After-measure) →
     let p = c .before .before in
     let a = start p .args in
     let n = c .measure .result + length (a .rest .now) in
-    (n ≡ length (keyOf (a .mode) (a .front .now) (a .rest .now))) × (p .page .given .0 .1 .0 + n ≤ pageSize (a .s)) × (pageSize (a .s) ≤ 1048576)
+    (n ≡ length (keyBytes (a .mode) (a .front .now) (a .rest .now))) × (p .page .given .0 .1 .0 + n ≤ pageSize (a .s)) × (pageSize (a .s) ≤ 1048576)
 sized c =
     let p = c .before .before in
     let a = start p .args in
@@ -39,7 +39,7 @@ sized c =
     (omega (arith, l, c .measure .ensures), omega (arith, l, c .measure .ensures, fits p .1), page-size (a .s) (start p .pre .0 .0 .ranged) .1)
 
 -- Where that was computed, before the entry was written.
-abbrev measured : tie.After-write-at → tie.After-measure
+abbrev measured : tie.After-place-entry → tie.After-measure
 measured c = c .before .before .before
 
 room-at-requires : tie.Need-room-at-requires
@@ -54,7 +54,7 @@ enum-told c = search needs
 returns : tie.Need-returns
 returns c =
     let a = c .before .before .before .before .before .before .before .args in
-    after-none (a .s) (a .pages .now) (a .lists .now) (a .x .d) (a .x .n) (a .x .place) (a .spot) (a .x .stamp) (keyOf (a .mode) (a .front .now) (a .rest .now))
+    after-none (a .s) (a .pages .now) (a .lists .now) (a .x .d) (a .x .n) (a .x .place) (a .spot) (a .x .stamp) (keyBytes (a .mode) (a .front .now) (a .rest .now))
     (sym (c .before .before .room-at .ensures) ∙ c .enum-told .given .1)
 
 measure-requires : tie.Need-measure-requires
@@ -66,8 +66,8 @@ measure-requires c κs =
 add-len : tie.Need-add-len
 add-len c = omega (arith, sized c)
 
-write-at-requires : tie.Need-write-at-requires
-write-at-requires c κs =
+place-entry-requires : tie.Need-place-entry-requires
+place-entry-requires c κs =
     let m = c .before .before in
     let p = m .before .before in
     (start p .pre .0, (fits p .0, sized m .1, sized m .0))
@@ -116,10 +116,10 @@ returns-2 c =
     let g = m .before .before in
     let z = start g in
     let a = z .args in
-    after-current (a .s) (a .pages .now) (a .lists .now) (a .x .d) (a .x .n) (a .x .place) (a .spot) (a .x .stamp) (keyOf (a .mode) (a .front .now) (a .rest .now))
+    after-current (a .s) (a .pages .now) (a .lists .now) (a .x .d) (a .x .n) (a .x .place) (a .spot) (a .x .stamp) (keyBytes (a .mode) (a .front .now) (a .rest .now))
     (g .page .given .0 .0) (g .page .given .0 .1 .0) _ (a .x .h) _ _ _
     (room-current (a .spot) _ _ _ _ (t .enum-told2 .given .1) (found g))
-    (sized m .0) (z .pre .1 .1) (w .write-at .ensures .0) (w .write-at .ensures .1) (c .before .before .extend .ensures)
+    (sized m .0) (z .pre .1 .1) (w .place-entry .ensures .0) (w .place-entry .ensures .1) (c .before .before .extend .ensures)
 
 same-length-3 : tie.Need-same-length-3
 same-length-3 c = search needs
@@ -136,8 +136,8 @@ returns-3 c =
     let z = start g in
     let a = z .args in
     let n = room-next (a .spot) _ _ _ (t .enum-told3 .given .1) (found g) in
-    after-next (a .s) (a .pages .now) (a .lists .now) (a .x .d) (a .x .n) (a .x .place) (a .spot) (a .x .stamp) (keyOf (a .mode) (a .front .now) (a .rest .now))
-    (g .page .given .0 .0) _ (a .x .h) _ _ _ (n .0) (sized m .0) (z .pre .1 .1) (rw (n .1) at (w .write-at .ensures .0)) (rw (n .1) at (w .write-at .ensures .1))
+    after-next (a .s) (a .pages .now) (a .lists .now) (a .x .d) (a .x .n) (a .x .place) (a .spot) (a .x .stamp) (keyBytes (a .mode) (a .front .now) (a .rest .now))
+    (g .page .given .0 .0) _ (a .x .h) _ _ _ (n .0) (sized m .0) (z .pre .1 .1) (rw (n .1) at (w .place-entry .ensures .0)) (rw (n .1) at (w .place-entry .ensures .1))
     (c .before .before .take-page .ensures)
 
 same-length-5 : tie.Need-same-length-5
@@ -173,7 +173,7 @@ insert-spec =
     returns
     measure-requires
     add-len
-    write-at-requires
+    place-entry-requires
     enum-told-2
     add-extend
     extend-requires

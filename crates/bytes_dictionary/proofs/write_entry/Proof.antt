@@ -28,8 +28,8 @@ dict-at-requires c κs = search needs
 add-put-word : tie.Need-add-put-word
 add-put-word c = omega (arith, base (c .before))
 
-pack-requires : tie.Need-pack-requires
-pack-requires c κs = search needs
+entry-word-requires : tie.Need-entry-word-requires
+entry-word-requires c κs = search needs
 
 put-word-requires : tie.Need-put-word-requires
 put-word-requires c κs = omega (arith, base (c .before .before))
@@ -87,7 +87,7 @@ write-entry-spec =
     (tie.spec
     dict-at-requires
     add-put-word
-    pack-requires
+    entry-word-requires
     put-word-requires
     add-put-word-2
     add-put-word-3

@@ -11,23 +11,23 @@ use Rattle.layout.specs.Fields.{pageOf, offsetOf, sizeOf, entryAt}
 use Rattle.layout.proofs.Ranges.{page-size, in-pages}
 use Rattle.layout.proofs.Places.{dict-within, list-bytes}
 use Rattle.bytes_index.specs.declared.Span.the-variants.{At, Bad}
-use Rattle.bytes_index.specs.Field.{Located}
+use Rattle.bytes_index.specs.Field.{SpanOf}
 use Rattle.bytes_index.proofs.Stored.{field-in, field-bad}
 use Rattle.bytes_index.proofs.entry.Statement.{statement}
 use Rattle.bytes_index.proofs.entry.Tie as tie
 
 -- The word that was read, v, is the entry's, w.
-bad : (s : Sizes) (v w : ℕ) → v ≡ w → (pageOf v < s .n → offsetOf v + sizeOf v ≤ pageSize s → ⊥) → Located s w Bad
-bad s v w e h = subst (λ (x : ℕ). Located s x Bad) e record { field = sym (field-bad s v h); inside = tt }
+bad : (s : Sizes) (v w : ℕ) → v ≡ w → (pageOf v < s .n → offsetOf v + sizeOf v ≤ pageSize s → ⊥) → SpanOf s w Bad
+bad s v w e h = subst (λ (x : ℕ). SpanOf s x Bad) e record { field = sym (field-bad s v h); inside = tt }
 
 regroup : (a b c t : ℕ) → a + (b + c) ≤ t → a + b + c ≤ t
 regroup a b c t l = omega arith
 
 at : (s : Sizes) (v w size : ℕ) → v ≡ w → size ≡ pageSize s → pageOf v < s .n → offsetOf v + sizeOf v ≤ size
-    → Located s w (At (pageOf v * size + offsetOf v) (sizeOf v))
+    → SpanOf s w (At (pageOf v * size + offsetOf v) (sizeOf v))
 at s v w size e q p l =
     let l′ : offsetOf v + sizeOf v ≤ pageSize s = rw q at l in
-    rw q (subst (λ (x : ℕ). Located s x (At (pageOf v * pageSize s + offsetOf v) (sizeOf v))) e record {
+    rw q (subst (λ (x : ℕ). SpanOf s x (At (pageOf v * pageSize s + offsetOf v) (sizeOf v))) e record {
       field = sym (field-in s v p l′);
       inside = regroup (pageOf v * pageSize s) (offsetOf v) (sizeOf v) (pageBytes s) (in-pages s (pageOf v) (offsetOf v + sizeOf v) p l′);
     })

@@ -20,13 +20,13 @@ use Rattle.layout.proofs.Places.{dict-within, list-bytes}
 use Rattle.layout.proofs.Ranges.{page-bytes}
 use Rattle.bytes_index.specs.declared.Span.{Span}
 use Rattle.bytes_index.specs.declared.Span.the-variants.{At, Bad}
-use Rattle.bytes_index.specs.Place.{place}
-use Rattle.bytes_index.specs.Entries.{Stands, Met, FreeAt}
-use Rattle.bytes_index.specs.Field.{entryField, Inside}
-use Rattle.bytes_index.specs.Search.{keyOf, Agree}
+use Rattle.bytes_index.specs.Place.{placeAfter}
+use Rattle.bytes_index.specs.Entries.{Addresses, Met, FreeAt}
+use Rattle.bytes_index.specs.Field.{entryField, SpanInside}
+use Rattle.bytes_index.specs.Search.{keyBytes, Agree}
 use Rattle.bytes_index.proofs.Span.{the-type}
 use Rattle.bytes_index.proofs.Place.{place-zero, place-next}
-use Rattle.bytes_index.proofs.Index.{Passed, passed, meets, hit, never-nothing, never-past, never-out, never-full, missed}
+use Rattle.bytes_index.proofs.Index.{PlacePassed, place-passed, meets, hit, never-nothing, never-past, never-out, never-full, missed}
 use Rattle.bytes_index.proofs.Stored.{field-in, located, front-sized, not-front, not-all, all-bytes}
 use Rattle.bytes_index.proofs.probe_index.Statement.{statement}
 use Rattle.bytes_index.proofs.probe_index.Tie as tie
@@ -52,8 +52,8 @@ abbrev Inv-probe : tie.InvT-probe
 Inv-probe pages lists s d h mode front rest e m places measured n top j₀ t₀ w₀ j t w =
     (t ≤ m)
     × (j < m)
-    × (place m (fnvOf (keyOf mode front rest)) t ≡ j)
-    × ((k : ℕ) → k < t → Passed s (B pages) (W lists s d) (keyOf mode front rest) (Q lists s d (place m (fnvOf (keyOf mode front rest)) k)))
+    × (placeAfter m (fnvOf (keyBytes mode front rest)) t ≡ j)
+    × ((k : ℕ) → k < t → PlacePassed s (B pages) (W lists s d) (keyBytes mode front rest) (Q lists s d (placeAfter m (fnvOf (keyBytes mode front rest)) k)))
 
 abbrev μ-probe : tie.MeasureT-probe
 μ-probe pages lists s d h mode front rest e m places measured n top j₀ t₀ w₀ j t w = m - t
@@ -80,7 +80,7 @@ quad c =
 
 -- The entry, and where its bytes lie.
 inside : (c : tie.After-known-told Inv-loop μ-loop Inv-probe μ-probe) → c .before .at .given .0 .0 + c .before .at .given .0 .1 .0 ≤ pageBytes (entered (turn c) .args .s)
-inside c = subst (Inside (entered (turn c) .args .s)) (c .before .at .given .1) (c .before .before .before .entry .ensures .inside)
+inside c = subst (SpanInside (entered (turn c) .args .s)) (c .before .at .given .1) (c .before .before .before .entry .ensures .inside)
 
 ends : (c : tie.After-known-told Inv-loop μ-loop Inv-probe μ-probe) → c .before .at .given .0 .0 + c .before .at .given .0 .1 .0 ≤ length (entered (turn c) .args .pages .now)
 ends c = omega (arith, inside c, entered (turn c) .pre .0 .pages-fit)
@@ -113,7 +113,7 @@ more a b n P h p k l u = go (decLt b k)
 -- The hash's top bits, as they were taken before the loop.
 same-top : (c : tie.At-probe Inv-loop μ-loop Inv-probe μ-probe)
     → let a = entered c .args in
-    c .before .before .top-bits .result ≡ topOf (fnvOf (keyOf (a .mode) (a .front .now) (a .rest .now)))
+    c .before .before .top-bits .result ≡ topOf (fnvOf (keyBytes (a .mode) (a .front .now) (a .rest .now)))
 same-top c = c .before .before .top-bits .ensures .0 ∙ ap topOf (entered c .pre .1)
 
 -- ---- the needs
@@ -143,7 +143,7 @@ probe-holds : tie.Need-probe-holds Inv-loop μ-loop Inv-probe μ-probe
 probe-holds c =
     let z = c .before .before .before .before .before .before .before .before in
     let a = z .args in
-    let h = fnvOf (keyOf (a .mode) (a .front .now) (a .rest .now)) in
+    let h = fnvOf (keyBytes (a .mode) (a .front .now) (a .rest .now)) in
     let m = 2 * a .s .e in
     let e : c .start .result ≡ h % m = c .start .ensures ∙ ap (λ (x : ℕ). x % m) (z .pre .1) in
     (omega arith, rw e (mod-lt h (omega (arith, z .pre .0 .ranged .e))), place-zero m h ∙ sym e, λ k l. absurd (omega arith))
@@ -176,7 +176,7 @@ returns-2 c =
     let a = z .args in
     let p = c .before .before .before .probe in
     let q = Q (a .lists .now) (a .s) (a .d) in
-    let f : FreeAt q (2 * a .s .e) (fnvOf (keyOf (a .mode) (a .front .now) (a .rest .now))) (p .j) =
+    let f : FreeAt q (2 * a .s .e) (fnvOf (keyBytes (a .mode) (a .front .now) (a .rest .now))) (p .j) =
     record { step = p .t; near = omega arith; here = p .inv .2; empty = sym (quad (c .before)) ∙ c .if2 .taken; full = λ k l. p .inv .3 k l .0 } in
     record {
       range = omega arith;
@@ -291,9 +291,9 @@ probe-again c =
     let p = q .before .before .probe in
     let z = entered (q .before .before) in
     let a = z .args in
-    let key = keyOf (a .mode) (a .front .now) (a .rest .now) in
+    let key = keyBytes (a .mode) (a .front .now) (a .rest .now) in
     let w = W (a .lists .now) (a .s) (a .d) in
-    let n : topOf (q .quad-at .result) ≡ topOf (fnvOf key) → Stands (a .s) (B (a .pages .now)) (w (namedBy (q .quad-at .result) - 1)) key → ⊥ =
+    let n : topOf (q .quad-at .result) ≡ topOf (fnvOf key) → Addresses (a .s) (B (a .pages .now)) (w (namedBy (q .quad-at .result) - 1)) key → ⊥ =
     ⊎-elim
     (λ x e.
     let l = located _ (a .pages .now) _ _ _ _ (z .pre .0 .pages-fit) (x .3 .ensures) (x .5 .given .1) in
@@ -308,7 +308,7 @@ probe-again c =
       rw (c .up .ensures) (mod-lt (p .j + 1) (omega arith)),
       place-next (2 * a .s .e) (fnvOf key) (p .t) ∙ rw (p .inv .2) (sym (c .up .ensures)),
       below-more _ _ (p .inv .3)
-          (passed (a .s) (B (a .pages .now)) w (Q (a .lists .now) (a .s) (a .d)) key (2 * a .s .e) (fnvOf key) (p .t) (p .j) (q .quad-at .result)
+          (place-passed (a .s) (B (a .pages .now)) w (Q (a .lists .now) (a .s) (a .d)) key (2 * a .s .e) (fnvOf key) (p .t) (p .j) (q .quad-at .result)
           (p .inv .2) (quad q) (g .if2 .left) n),
     )
 
@@ -324,7 +324,7 @@ returns-6 c =
     let p = turn k .probe in
     let z = entered (turn k) in
     let a = z .args in
-    let key = keyOf (a .mode) (a .front .now) (a .rest .now) in
+    let key = keyBytes (a .mode) (a .front .now) (a .rest .now) in
     let b = B (a .pages .now) in
     let w = W (a .lists .now) (a .s) (a .d) in
     let q = Q (a .lists .now) (a .s) (a .d) in
@@ -332,7 +332,7 @@ returns-6 c =
     let i = namedBy (r .quad-at .result) - 1 in
     let M : Met q (2 * a .s .e) (fnvOf key) i =
     meets (a .s) b w q key (2 * a .s .e) (p .t) (p .j) (r .quad-at .result) (omega arith) (p .inv .2) (quad r) (g .if3 .taken ∙ same-top (turn k)) (e .before .if4 .left) (p .inv .3) in
-    let S : Stands (a .s) b (w i) key =
+    let S : Addresses (a .s) b (w i) key =
     all-bytes _ _ _ _ _ _ _ _ refl (l .0) (l .1) (sym (c .before .before .before .front-is .ensures) ∙ c .before .before .if6 .taken)
     (λ j y u. c .before .loop .inv .1 j (omega arith) (omega arith)) in
     record {

@@ -3,12 +3,12 @@ use mathlib.Core.Path.{_≡_, sym, _∙_}
 use mathlib.Core.Option.{none}
 use lib.ListN.{length}
 use Rattle.layout.specs.declared.Header.the-variants.{Opened}
-use Rattle.layout.specs.Header.{headerOf}
+use Rattle.layout.specs.Header.{Lent, headerOf}
+use Rattle.layout.specs.Sizes.{kinds}
 use Rattle.refusals.proofs.Told.{told-legal, told-illegal}
 use Rattle.model.specs.Names.{entered}
 use Rattle.model.specs.Steps.{shapeRefusal}
 use Rattle.model.proofs.Legal.{legal-shape, shape-refused}
-use Rattle.enter.specs.Added.{Lent}
 use Rattle.dictionary.proofs.Headers.{header, in-range}
 use Rattle.dictionary.proofs.Adds.{add-unopened, add-illegal, add-judged}
 use borrow.Author.Needs.{needs}
@@ -29,7 +29,7 @@ shaped c = told-legal _ (sym (c .before .before .check-shape .ensures) ∙ c .en
 
 lent : (c : tie.After-enum-told2) →
     let a = c .before .before .before .before .before .before .before .before .before .before .before .before .before .args in
-    Lent (c .before .before .before .before .s .given .0 .0) (a .pages .now) (a .lists .now) (a .kind)
+    Lent (c .before .before .before .before .s .given .0 .0) (a .pages .now) (a .lists .now) kinds (a .kind)
 lent c =
     let a = c .before .before .before .before .before .before .before .before .before .before .before .before .before .args in
     let s = c .before .before .before .before .s .given .0 .0 in
@@ -38,7 +38,7 @@ lent c =
       ranged = in-range (a .pages .now) (a .lists .now) s (opened (c .before .before .before .before));
       pages-fit = h .pages-fit;
       lists-fit = h .lists-fit;
-      kinded = legal-shape s (entered (a .kind) (a .first .now) (a .second .now)) (shaped c) .kind;
+      known = legal-shape s (entered (a .kind) (a .first .now) (a .second .now)) (shaped c) .kind;
     }
 
 check-header-requires : tie.Need-check-header-requires

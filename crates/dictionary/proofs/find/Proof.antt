@@ -4,14 +4,15 @@ use mathlib.Core.Option.{none}
 use native.Mathlib.Omega.{arith}
 use lib.ListN.{length}
 use Rattle.layout.specs.declared.Header.the-variants.{Opened}
-use Rattle.layout.specs.Header.{headerOf}
+use Rattle.layout.specs.Header.{Lent, headerOf}
+use Rattle.layout.specs.Sizes.{kinds}
 use Rattle.meta_dv_dict.specs.Answers.{Globals}
 use Rattle.refusals.proofs.Told.{told-legal, told-illegal}
 use Rattle.model.specs.Names.{entered}
 use Rattle.model.specs.Steps.{shapeRefusal, checks}
 use Rattle.model.proofs.Legal.{legal-shape, shape-refused, text-decides}
 use Rattle.search.specs.declared.Search.the-variants.{Found}
-use Rattle.search.specs.Found.{Lent, FindsName}
+use Rattle.search.specs.Found.{FindsName}
 use Rattle.dictionary.proofs.Headers.{header, in-range}
 use Rattle.dictionary.proofs.Finds.{find-unopened, find-illegal, find-known, find-bad-number, find-none, find-bad}
 use borrow.Author.Needs.{needs}
@@ -34,7 +35,7 @@ shaped c = told-legal _ (sym (c .before .before .check-shape .ensures) ∙ c .en
 lent : (c : tie.After-enum-told2) →
     let o = c .before .before .before .before in
     let a = o .before .before .before .before .before .before .before .args in
-    Lent (o .s .given .0 .0) (a .pages .now) (a .lists .now) (a .kind)
+    Lent (o .s .given .0 .0) (a .pages .now) (a .lists .now) kinds (a .kind)
 lent c =
     let o = c .before .before .before .before in
     let a = o .before .before .before .before .before .before .before .args in
@@ -44,7 +45,7 @@ lent c =
       ranged = in-range (a .pages .now) (a .lists .now) s (opened o);
       pages-fit = h .pages-fit;
       lists-fit = h .lists-fit;
-      kinded = legal-shape s (entered (a .kind) (a .first .now) (a .second .now)) (shaped c) .kind;
+      known = legal-shape s (entered (a .kind) (a .first .now) (a .second .now)) (shaped c) .kind;
     }
 
 -- The whole name is legal.
@@ -121,7 +122,7 @@ enum-known-found c = search needs
 local-to-global-requires : tie.Need-local-to-global-requires
 local-to-global-requires c κs =
     let l = lent (c .before .before .before .before .before .before .before) in
-    (l .ranged, l .lists-fit, omega (arith, l .kinded))
+    (l .ranged, l .lists-fit, omega (arith, l .known))
 
 enum-known-number : tie.Need-enum-known-number
 enum-known-number c = search needs

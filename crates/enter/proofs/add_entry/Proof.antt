@@ -5,7 +5,7 @@ use native.Mathlib.Omega.{arith}
 use lib.ListN.{length}
 use Rattle.layout.specs.Sizes.{pageSize}
 use Rattle.layout.proofs.Ranges.{page-size}
-use Rattle.bytes_index.specs.Search.{keyOf}
+use Rattle.bytes_index.specs.Search.{keyBytes}
 use Rattle.bytes_dictionary.specs.Written.{HasRoom}
 use Rattle.bytes_dictionary.proofs.Keys.{length-key}
 use Rattle.enter.specs.Answers.{PlanFits, PlanBounded}
@@ -18,7 +18,7 @@ use Rattle.enter.proofs.add_entry.Tie as tie
 sized : (c : tie.After-measure) →
     let a = c .before .before .before .before .before .args in
     let n = c .measure .result + length (a .rest .now) in
-    (n ≡ length (keyOf (a .mode) (a .front .now) (a .rest .now))) × (n ≤ pageSize (a .s))
+    (n ≡ length (keyBytes (a .mode) (a .front .now) (a .rest .now))) × (n ≤ pageSize (a .s))
 sized c =
     let z = c .before .before .before .before .before in
     let l = length-key (z .args .mode) (z .args .front .now) (z .args .rest .now) in
@@ -47,7 +47,7 @@ add-len c =
 plan-entry-requires : tie.Need-plan-entry-requires
 plan-entry-requires c κs =
     let p = c .before .before .before .before .before .before .pre .0 in
-    (p .ranged, p .lists-fit, p .kinded, sized (c .before) .1)
+    (p .ranged, p .lists-fit, p .known, sized (c .before) .1)
 
 enum-known-x : tie.Need-enum-known-x
 enum-known-x c = search needs
@@ -69,7 +69,7 @@ take-block-requires : tie.Need-take-block-requires
 take-block-requires c κs =
     let L = c .before .before .before .before .before .before .before .before .before .before .before .before .before .before .before .before .before .before .before .pre .0 in
     let F = fit (c .before .before .before .before .before .before .before .before .before .before) in
-    (L .ranged, omega (arith, L .lists-fit), L .kinded, F .local, omega (arith, F .block))
+    (L .ranged, omega (arith, L .lists-fit), L .known, F .local, omega (arith, F .block))
 
 number-in-requires : tie.Need-number-in-requires
 number-in-requires c κs = (c .before .before .before .before .before .before .before .before .before .before .before .before .before .before .before .before .before .before .before .before .before .before .pre .0 .ranged, omega (arith, fit (c .before .before .before .before .before .before .before .before .before .before .before .before .before) .block))
@@ -90,7 +90,7 @@ returns c =
     let z = m .before .before .before .before .before in
     let a = z .args in
     let i = c .before .before .before .before .before .before .before .before .before .insert in
-    added-calls (a .s) (a .pages .now) (a .lists .now) (a .k) (keyOf (a .mode) (a .front .now) (a .rest .now)) (z .pre .0) (a .place) (z .pre .1 .0)
+    added-calls (a .s) (a .pages .now) (a .lists .now) (a .k) (keyBytes (a .mode) (a .front .now) (a .rest .now)) (z .pre .0) (a .place) (z .pre .1 .0)
     _ _ _ (x .x .given .0 .0) _ _ _ _ (sized m .0) (x .before .before .plan-entry .ensures) (x .x .given .1) (c .before .before .before .before .before .before .before .before .before .before .before .before .main-dictionary .ensures .0)
     (i .ensures .0) (i .ensures .1) (c .before .before .before .take-block .ensures) (c .number-in .ensures)
 
@@ -102,7 +102,7 @@ returns-2 c =
     let m = c .before .before .before .before .before in
     let z = m .before .before .before .before .before in
     let a = z .args in
-    added-refused (a .s) (a .pages .now) (a .lists .now) (a .k) (keyOf (a .mode) (a .front .now) (a .rest .now)) (z .pre .0) (a .place) (z .pre .1 .0)
+    added-refused (a .s) (a .pages .now) (a .lists .now) (a .k) (keyBytes (a .mode) (a .front .now) (a .rest .now)) (z .pre .0) (a .place) (z .pre .1 .0)
     _ _ _ (sized m .0) (c .before .before .before .plan-entry .ensures) (c .before .why .given .1)
 
 pub add-entry-spec : {M : Type 1} → statement M

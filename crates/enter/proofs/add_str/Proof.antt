@@ -7,7 +7,7 @@ use lib.ListN.{length}
 use Rattle.parts.specs.Parts.{bytesOf}
 use Rattle.layout.proofs.Ranges.{page-size}
 use Rattle.bytes_index.specs.declared.Probe.{Probe}
-use Rattle.bytes_index.specs.Search.{keyOf, Searched}
+use Rattle.bytes_index.specs.Search.{keyBytes, Searched}
 use Rattle.bytes_dictionary.proofs.Keys.{length-key}
 use Rattle.refusals.proofs.Told.{told-legal, told-illegal}
 use Rattle.model.specs.Names.{entered}
@@ -26,10 +26,10 @@ start c = c .before .before .before .before .before .before .before .before .bef
 -- What the search says, by its answer.
 searched : (c : tie.After-bytes-to-id) (r : Probe) → c .bytes-to-id .result ≡ r →
     let a = start c .args in
-    Searched (a .s) (row (a .k) .mainAt) (a .pages .now) (a .lists .now) (keyOf (a .mode) (a .front .now) (a .rest .now)) r
+    Searched (a .s) (row (a .k) .mainAt) (a .pages .now) (a .lists .now) (keyBytes (a .mode) (a .front .now) (a .rest .now)) r
 searched c r e =
     let a = start c .args in
-    let key = keyOf (a .mode) (a .front .now) (a .rest .now) in
+    let key = keyBytes (a .mode) (a .front .now) (a .rest .now) in
     subst (λ (d : ℕ). Searched (a .s) d (a .pages .now) (a .lists .now) key r) (c .before .before .before .main-dictionary .ensures .0)
     (subst (Searched (a .s) (c .before .before .before .main-dictionary .result) (a .pages .now) (a .lists .now) key) e (c .bytes-to-id .ensures))
 
@@ -62,7 +62,7 @@ same-length-2 c = search needs
 returns : tie.Need-returns
 returns c =
     let a = start (c .before .before .before .before) .args in
-    judged-refused (a .s) (HasKey (a .k) (keyOf (a .mode) (a .front .now) (a .rest .now))) (a .pages .now) (a .lists .now)
+    judged-refused (a .s) (HasKey (a .k) (keyBytes (a .mode) (a .front .now) (a .rest .now))) (a .pages .now) (a .lists .now)
     (textRefusal (entered (a .k) (a .first .now) (a .second .now))) (c .before .why .given .0 .0) (told-illegal _ _ (sym (c .before .before .before .check-text .ensures) ∙ c .before .why .given .1))
 
 enum-told : tie.Need-enum-told
@@ -101,7 +101,7 @@ returns-2 c =
     let z = start f in
     let a = z .args in
     judged (a .s) _ (a .pages .now) (a .lists .now) _ _ _ _ (legal e)
-    (added-known (a .s) (a .pages .now) (a .lists .now) (a .k) (keyOf (a .mode) (a .front .now) (a .rest .now)) (z .pre .0) _ _ (searched f _ (p .found .given .1)) (c .known .ensures))
+    (added-known (a .s) (a .pages .now) (a .lists .now) (a .k) (keyBytes (a .mode) (a .front .now) (a .rest .now)) (z .pre .0) _ _ (searched f _ (p .found .given .1)) (c .known .ensures))
 
 same-length-5 : tie.Need-same-length-5
 same-length-5 c = search needs
@@ -129,7 +129,7 @@ returns-4 c =
     let z = start f in
     let a = z .args in
     judged (a .s) _ (a .pages .now) (a .lists .now) _ _ _ _ (legal e)
-    (added-foreign (a .s) (a .pages .now) (a .lists .now) (a .k) (keyOf (a .mode) (a .front .now) (a .rest .now)) (z .pre .0) (searched f _ (c .enum-told2 .given .1)))
+    (added-foreign (a .s) (a .pages .now) (a .lists .now) (a .k) (keyBytes (a .mode) (a .front .now) (a .rest .now)) (z .pre .0) (searched f _ (c .enum-told2 .given .1)))
 
 pub add-str-spec : {M : Type 1} → statement M
 add-str-spec =

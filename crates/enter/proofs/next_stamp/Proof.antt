@@ -6,7 +6,7 @@ use native.Mathlib.Numerals.{add-one}
 use Rattle.layout.specs.Sizes.{kinds}
 use Rattle.bytes_buffer.specs.Pages.{sum}
 use Rattle.bytes_dictionary.proofs.Reading.{counted-by}
-use Rattle.enter.proofs.Steps.{countWord, counted-main, sum-more, sum-few, stamps-bad, stamps-sum}
+use Rattle.enter.proofs.Steps.{countWord, counted-main, sum-bound, sum-few, stamps-bad, stamps-sum}
 use borrow.Author.Needs.{needs}
 use Rattle.enter.proofs.next_stamp.Statement.{statement}
 use Rattle.enter.proofs.next_stamp.Tie as tie
@@ -66,7 +66,7 @@ loop-again : tie.Need-loop-again Inv-loop μ-loop
 loop-again c =
     let l = c .before .before .before .before .before .before in
     let n = counted c in
-    (omega (arith, c .before .before .before .before .before), sum-more _ _ _ _ (l .loop .inv .1) (n .1), rw add-one (omega (arith, n .0, l .loop .inv .2)))
+    (omega (arith, c .before .before .before .before .before), sum-bound _ _ _ _ (l .loop .inv .1) (n .1), rw add-one (omega (arith, n .0, l .loop .inv .2)))
 
 returns-2 : tie.Need-returns-2 Inv-loop μ-loop
 returns-2 c =

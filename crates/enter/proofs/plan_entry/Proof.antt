@@ -6,7 +6,7 @@ use Rattle.bytes_buffer.specs.Spots.{spotIn}
 use Rattle.bytes_dictionary.specs.declared.Counted.the-variants.{Entries}
 use Rattle.bytes_dictionary.specs.Reading.{countIn}
 use Rattle.bytes_dictionary.specs.Written.{IsSpot}
-use Rattle.enter.specs.Answers.{Reserves}
+use Rattle.enter.specs.Answers.{Chooses}
 use Rattle.enter.proofs.Steps.{countWord, counted-main}
 use Rattle.enter.proofs.Plans.{Read, spot-legal, plans-uncounted, plans-full, plans-unpaged, plans-spotless, plans-blockless, plans-ready}
 use borrow.Author.Needs.{needs}
@@ -101,8 +101,8 @@ spotted c = spot-legal (c .before .before .before .plan .result) (sym (c .before
 enum-told-3 : tie.Need-enum-told-3
 enum-told-3 c = search needs
 
-reserve-requires : tie.Need-reserve-requires
-reserve-requires c κs = search needs
+choose-block-requires : tie.Need-choose-block-requires
+choose-block-requires c κs = search needs
 
 enum-known-g : tie.Need-enum-known-g
 enum-known-g c = search needs
@@ -115,13 +115,13 @@ returns-5 c =
     let r = c .before .before .before in
     let z = r .before .before .before .before .before .before .before .before .before .before .before .before .before .before .before .before .before in
     plans-ready _ _ _ _ (z .pre .2) _ _ _ (planned (r .before .before .before .before)) (spotted (r .before)) _ _ (z .pre .3)
-    (subst (Reserves _ _ _ _) (c .before .g .given .1) (r .reserve .ensures))
+    (subst (Chooses _ _ _ _) (c .before .g .given .1) (r .choose-block .ensures))
 
 returns-6 : tie.Need-returns-6
 returns-6 c =
     let r = c .before .before .before in
     let z = r .before .before .before .before .before .before .before .before .before .before .before .before .before .before .before .before .before in
-    plans-blockless _ _ _ _ (z .pre .2) _ _ _ (planned (r .before .before .before .before)) (spotted (r .before)) _ (subst (Reserves _ _ _ _) (c .before .why2 .given .1) (r .reserve .ensures))
+    plans-blockless _ _ _ _ (z .pre .2) _ _ _ (planned (r .before .before .before .before)) (spotted (r .before)) _ (subst (Chooses _ _ _ _) (c .before .why2 .given .1) (r .choose-block .ensures))
 
 pub plan-entry-spec : {M : Type 1} → statement M
 plan-entry-spec =
@@ -142,7 +142,7 @@ plan-entry-spec =
     enum-known-why
     returns-4
     enum-told-3
-    reserve-requires
+    choose-block-requires
     enum-known-g
     enum-known-why-2
     returns-5

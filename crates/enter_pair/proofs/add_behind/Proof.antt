@@ -11,7 +11,7 @@ use Rattle.layout.proofs.Ranges.{limit-fits}
 use Rattle.fnv.specs.Fnv.{fnvOf}
 use Rattle.parts.specs.declared.Mode.the-variants.{Raw}
 use Rattle.ranked_pair_dictionary.specs.FrequentId.{fid}
-use Rattle.bytes_index.specs.Search.{keyOf}
+use Rattle.bytes_index.specs.Search.{keyBytes}
 use Rattle.model.specs.Names.{entered}
 use Rattle.model.specs.Steps.{textRefusal}
 use Rattle.enter.specs.Answers.{addedBy}
@@ -45,13 +45,13 @@ lead-in c = omega (arith, length-m c, lead-short (start c .args .f), c .before .
 -- The key of the pair.
 key-at : (c : tie.After-m) →
     let a = start c .args in
-    keyOf Raw (take (c .m .given .0 .0) (c .before .before .before .write-frequent-id .last .1 .0)) (a .rest .now) ≡ fid (a .f) ++ a .rest .now
+    keyBytes Raw (take (c .m .given .0 .0) (c .before .before .before .write-frequent-id .last .1 .0)) (a .rest .now) ≡ fid (a .f) ++ a .rest .now
 key-at c =
     let z = start c in
     lead-key (z .args .f) zeros (small z) (omega arith) _ (z .args .rest .now) _ (c .before .before .before .write-frequent-id .ensures .1) (length-m c)
 
 key-short : (c : tie.After-m) →
-    length (keyOf Raw (take (c .m .given .0 .0) (c .before .before .before .write-frequent-id .last .1 .0)) (start c .args .rest .now)) ≤ pageSize (start c .args .s)
+    length (keyBytes Raw (take (c .m .given .0 .0) (c .before .before .before .write-frequent-id .last .1 .0)) (start c .args .rest .now)) ≤ pageSize (start c .args .s)
 key-short c =
     let z = start c in
     subst (λ x. length x ≤ pageSize (z .args .s)) (sym (key-at c))
@@ -63,7 +63,7 @@ led c = c .before .before .before .before
 
 hashed : (c : tie.After-scan) →
     let m = led c in
-    c .scan .result .h ≡ fnvOf (keyOf Raw (take (m .m .given .0 .0) (m .before .before .before .write-frequent-id .last .1 .0)) (start m .args .rest .now))
+    c .scan .result .h ≡ fnvOf (keyBytes Raw (take (m .m .given .0 .0) (m .before .before .before .write-frequent-id .last .1 .0)) (start m .args .rest .now))
 hashed c = raw-hash _ _ _ _ (c .before .fnv .ensures) (c .scan .ensures .0)
 
 slice-aggregate-write-frequent-id : tie.Need-slice-aggregate-write-frequent-id
@@ -108,7 +108,7 @@ add-str-requires c κs =
     let m = led y in
     let z = start m in
     let L = z .pre .0 .0 in (
-      record { ranged = L .ranged; pages-fit = L .pages-fit; lists-fit = L .lists-fit; kinded = L .kinded },
+      record { ranged = L .ranged; pages-fit = L .pages-fit; lists-fit = L .lists-fit; known = L .known },
       (key-short m, (hashed y, λ p. z .pre .1 (subst (λ (n : ℕ). n < 128) (y .scan .ensures .1) (ltb-true _ _ p)))),
     )
 

@@ -11,7 +11,7 @@ use Rattle.layout.proofs.Ranges.{page-size, limit-fits}
 use Rattle.fnv.specs.Fnv.{fnvOf}
 use Rattle.parts.specs.declared.Mode.the-variants.{Raw}
 use Rattle.ranked_pair_dictionary.specs.FrequentId.{fid}
-use Rattle.bytes_index.specs.Search.{keyOf, Searched}
+use Rattle.bytes_index.specs.Search.{keyBytes, Searched}
 use Rattle.bytes_index.specs.declared.Probe.the-variants.{Free}
 use Rattle.bytes_dictionary.specs.declared.Counted.the-variants.{Entries}
 use Rattle.bytes_dictionary.specs.Reading.{countIn}
@@ -59,7 +59,7 @@ lead-in c = omega (arith, length-m c, lead-short (numbered c .f .given .0 .0), c
 -- The key of the pair.
 key-at : (c : tie.After-m) →
     let a = entered (numbered c) .args in
-    keyOf Raw (take (c .m .given .0 .0) (c .before .before .before .write-frequent-id .last .1 .0)) (a .rest .now) ≡ fid (numbered c .f .given .0 .0) ++ a .rest .now
+    keyBytes Raw (take (c .m .given .0 .0) (c .before .before .before .write-frequent-id .last .1 .0)) (a .rest .now) ≡ fid (numbered c .f .given .0 .0) ++ a .rest .now
 key-at c =
     let f = numbered c in
     lead-key (f .f .given .0 .0) zeros (small f) (omega arith) _ (entered f .args .rest .now) _ (c .before .before .before .write-frequent-id .ensures .1) (length-m c)
@@ -84,7 +84,7 @@ before-hash c = c .before .before .before .before
 
 hashed : (c : tie.After-fnv-from) →
     let m = before-hash c in
-    c .fnv-from .result ≡ fnvOf (keyOf Raw (take (m .m .given .0 .0) (m .before .before .before .write-frequent-id .last .1 .0)) (entered (numbered m) .args .rest .now))
+    c .fnv-from .result ≡ fnvOf (keyBytes Raw (take (m .m .given .0 .0) (m .before .before .before .write-frequent-id .last .1 .0)) (entered (numbered m) .args .rest .now))
 hashed c = raw-hash _ _ _ _ (c .before .fnv .ensures) (c .fnv-from .ensures)
 
 -- The search for it.
@@ -102,7 +102,7 @@ searched c =
     let m = led c in
     let a = entered (numbered m) .args in
     subst (λ x. Searched (a .s) (row (a .k) .mainAt) (a .pages .now) (a .lists .now) x (c .bytes-to-id .result)) (key-at m)
-    (subst (λ j. Searched (a .s) j (a .pages .now) (a .lists .now) (keyOf Raw (take (m .m .given .0 .0) (m .before .before .before .write-frequent-id .last .1 .0)) (a .rest .now)) (c .bytes-to-id .result)) (c .before .before .before .before .main-dictionary .ensures .0) (c .bytes-to-id .ensures))
+    (subst (λ j. Searched (a .s) j (a .pages .now) (a .lists .now) (keyBytes Raw (take (m .m .given .0 .0) (m .before .before .before .write-frequent-id .last .1 .0)) (a .rest .now)) (c .bytes-to-id .result)) (c .before .before .before .before .main-dictionary .ensures .0) (c .bytes-to-id .ensures))
 
 free : (c : tie.After-found) →
     let f = numbered (led (c .before .before)) in
@@ -247,7 +247,7 @@ plan-pair-requires c κs =
     let m = led (c .before .before .before .before) in
     let p = entered (numbered m) .pre .0 in
     let L = p .0 in
-    ((L .ranged, L .lists-fit, L .kinded, p .1), (omega (arith, p .2, limit-fits _ (L .ranged)), sized m .1))
+    ((L .ranged, L .lists-fit, L .known, p .1), (omega (arith, p .2, limit-fits _ (L .ranged)), sized m .1))
 
 enum-known-x : tie.Need-enum-known-x
 enum-known-x c = search needs
@@ -272,7 +272,7 @@ commit-pair-requires c κs =
     let z = entered (numbered m) in
     let a = z .args in
     let L = z .pre .0 .0 in (
-      (record { ranged = L .ranged; pages-fit = L .pages-fit; lists-fit = L .lists-fit; kinded = L .kinded }, z .pre .0 .1, z .pre .1 .range, free o .range),
+      (record { ranged = L .ranged; pages-fit = L .pages-fit; lists-fit = L .lists-fit; known = L .known }, z .pre .0 .1, z .pre .1 .range, free o .range),
       (
         subst (λ y. PairPlanFits (a .s) (numbered m .f .given .0 .0) (length (a .head .now)) (length y) (x .x .given .0 .0)) (sym (lead-rest m)) (ready x .bounded),
         (c .before .fnv2 .ensures, hashed h ∙ ap fnvOf (raw-key (take (m .m .given .0 .0) (m .before .before .before .write-frequent-id .last .1 .0)) (a .rest .now))),

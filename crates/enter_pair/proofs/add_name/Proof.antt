@@ -10,9 +10,10 @@ use Rattle.slices.specs.Bytes.{Bytes}
 use Rattle.parts.specs.declared.Mode.the-variants.{Raw}
 use Rattle.parts.specs.Parts.{bytesOf}
 use Rattle.layout.specs.declared.Sizes.{Sizes}
-use Rattle.layout.specs.Sizes.{InRange, limit, pageSize}
+use Rattle.layout.specs.Sizes.{InRange, limit, pageSize, kinds}
 use Rattle.layout.proofs.Ranges.{limit-fits}
-use Rattle.bytes_index.specs.Search.{keyOf}
+use Rattle.layout.specs.Header.{Lent}
+use Rattle.bytes_index.specs.Search.{keyBytes}
 use Rattle.model.specs.Names.{Name, entered}
 use Rattle.model.specs.Kinds.{row}
 use Rattle.model.specs.State.{State}
@@ -24,8 +25,8 @@ use Rattle.model.proofs.Legal.{legal-shape}
 use Rattle.names.proofs.Rows.{paired, shape-second}
 use Rattle.names.proofs.Pairs.{is-pair}
 use Rattle.search.proofs.Leads.{whole-hash, scanned-hash}
-use Rattle.search.proofs.Plain.{plain-text, pair-plain}
-use Rattle.enter.specs.Added.{Lent, Judged, HasKey}
+use Rattle.search.proofs.Ascii.{ascii-text, pair-ascii}
+use Rattle.enter.specs.Added.{Judged, HasKey}
 use Rattle.enter_pair.proofs.Means.{judged-names, by-rest}
 use borrow.Author.Needs.{needs}
 use borrow.Author.Tests.{ltb-true}
@@ -33,8 +34,8 @@ use Rattle.enter_pair.proofs.add_name.Statement.{statement}
 use Rattle.enter_pair.proofs.add_name.Tie as tie
 
 -- Slices that serve one kind serve every kind.
-other-kind : (s : Sizes) (pages lists : Bytes) (k j : ℕ) → Lent s pages lists k → k ≡ j → Lent s pages lists j
-other-kind s pages lists k j L e = subst (Lent s pages lists) e L
+other-kind : (s : Sizes) (pages lists : Bytes) (k j : ℕ) → Lent s pages lists kinds k → k ≡ j → Lent s pages lists kinds j
+other-kind s pages lists k j L e = subst (Lent s pages lists kinds) e L
 
 -- Head and rest are no longer than the two parts.
 parts-short : (k : ℕ) (first second : Bytes) (n m : ℕ) → n ≤ length first → length first + length second ≤ m
@@ -42,13 +43,13 @@ parts-short : (k : ℕ) (first second : Bytes) (n m : ℕ) → n ≤ length firs
 parts-short zero first second n m l h = omega (arith, length-take-le n first l, length-drop n first)
 parts-short (suc k) first second n m l h = omega (arith, length-take-le n first l)
 
-plain-short : (s : Sizes) (first second : Bytes) → InRange s → length first + length second ≤ limit s → length (keyOf Raw [] first) ≤ pageSize s
+plain-short : (s : Sizes) (first second : Bytes) → InRange s → length first + length second ≤ limit s → length (keyBytes Raw [] first) ≤ pageSize s
 unfolding bytesOf
 plain-short s first second r h = omega (arith, limit-fits s r)
 
 -- What the arguments of each kind stand for.
 module _ (k : ℕ) (first second : Bytes) (st : State) (a : Name) (m : a ≡ entered k first second) where
-  is-plain : k ≡ 1 → HasKey 1 (keyOf Raw [] first) st a
+  is-plain : k ≡ 1 → HasKey 1 (keyBytes Raw [] first) st a
   unfolding bytesOf
   is-plain z = rw (m, z) (by-rest 1 first st (entered 1 first second) refl refl refl)
 
@@ -65,7 +66,7 @@ by-kind s k j first second pages lists M r pages′ lists′ e h = subst (λ (i 
 has-heads : (c : tie.Else2) → row (c .before .before .before .before .before .before .args .kind) .paired ≡ true
 has-heads c =
     let z = c .before .before .before .before .before .before in
-    paired (z .args .kind) (z .pre .0 .kinded) (c .before .if1 .left) (c .if2 .left)
+    paired (z .args .kind) (z .pre .0 .known) (c .before .if1 .left) (c .if2 .left)
 
 slice-aggregate-none : tie.Need-slice-aggregate-none
 slice-aggregate-none c = search needs
@@ -86,7 +87,7 @@ add-str-requires c κs =
         (
           whole-hash (a .first .now) (x .result .h) (scanned-hash _ _ (x .ensures .0)),
           λ p. (
-            plain-text (a .first .now) 0 (subst (λ (n : ℕ). n < 128) (x .ensures .1) (ltb-true _ _ p)),
+            ascii-text (a .first .now) 0 (subst (λ (n : ℕ). n < 128) (x .ensures .1) (ltb-true _ _ p)),
             rw (shape-second (a .s) (entered (a .kind) (a .first .now) (a .second .now)) (z .pre .1) (omega (arith, t .if1 .taken))),
           ),
         ),
@@ -154,7 +155,7 @@ add-pair-requires c κs =
         subst (λ (y : Bytes). length (take n (a .first .now)) + length y ≤ limit (a .s)) (sym (b .rest-behind .ensures))
             (parts-short (a .kind) (a .first .now) (a .second .now) n (limit (a .s)) (h .head-length .ensures .1) (legal-shape (a .s) N (z .pre .1) .size)),
       ),
-      pair-plain (a .kind) (a .first .now) (a .second .now) _ n (h .head-length .ensures .0) (h .head-length .ensures .1) (b .rest-behind .ensures) (shape-second (a .s) N (z .pre .1)),
+      pair-ascii (a .kind) (a .first .now) (a .second .now) _ n (h .head-length .ensures .0) (h .head-length .ensures .1) (b .rest-behind .ensures) (shape-second (a .s) N (z .pre .1)),
     )
 
 same-length-5 : tie.Need-same-length-5
@@ -171,7 +172,7 @@ returns-3 c =
     let z = h .before .before .before .before .before .before .before in
     let a = z .args in
     judged-names (a .s) (a .pages .now) (a .lists .now) _ _ _ _ _ _
-    (λ st x S l m. is-pair (a .kind) (a .first .now) (a .second .now) _ _ (z .pre .0 .kinded) (has-heads (h .before)) (h .head-length .ensures .0) (b .rest-behind .ensures) x m)
+    (λ st x S l m. is-pair (a .kind) (a .first .now) (a .second .now) _ _ (z .pre .0 .known) (has-heads (h .before)) (h .head-length .ensures .0) (b .rest-behind .ensures) x m)
     (e .add-pair .ensures)
 
 pub add-name-spec : {M : Type 1} → statement M

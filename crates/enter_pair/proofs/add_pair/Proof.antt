@@ -46,7 +46,7 @@ add-behind-requires c κs =
     let f = c .before .before .before in
     let z = start (f .before .before) in
     let L = z .pre .0 .0 in (
-      (record { ranged = L .ranged; pages-fit = L .pages-fit; lists-fit = L .lists-fit; kinded = L .kinded }, at-f f .range, omega (arith, z .pre .0 .2)),
+      (record { ranged = L .ranged; pages-fit = L .pages-fit; lists-fit = L .lists-fit; known = L .known }, at-f f .range, omega (arith, z .pre .0 .2)),
       λ q. z .pre .1 (subst (λ (b : ℕ). bitsFrom b (z .args .rest .now) < 128) (f .before .before .before .before .before .scan .ensures .1) q),
     )
 
@@ -113,7 +113,7 @@ add-both-requires c κs =
     let z = start g in
     let a = z .args in
     let L = z .pre .0 .0 in (
-      (record { ranged = L .ranged; pages-fit = L .pages-fit; lists-fit = L .lists-fit; kinded = L .kinded }, z .pre .0 .1, z .pre .0 .2),
+      (record { ranged = L .ranged; pages-fit = L .pages-fit; lists-fit = L .lists-fit; known = L .known }, z .pre .0 .1, z .pre .0 .2),
       subst (Searched (a .s) (row (a .k) .headsAt) (a .pages .now) (a .lists .now) (a .head .now)) (h .found2 .given .1) (g .find-head .ensures),
     )
 

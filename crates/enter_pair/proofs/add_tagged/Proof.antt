@@ -6,7 +6,7 @@ use Rattle.slices.specs.Bytes.{Bytes}
 use Rattle.layout.proofs.Ranges.{limit-fits}
 use Rattle.parts.specs.declared.Mode.the-variants.{Tag}
 use Rattle.parts.proofs.Laws.{length-bytes}
-use Rattle.bytes_index.specs.Search.{keyOf}
+use Rattle.bytes_index.specs.Search.{keyBytes}
 use Rattle.bytes_dictionary.proofs.Keys.{length-key}
 use Rattle.string_dv_dict.proofs.Keys.{packed-key}
 use Rattle.model.specs.Names.{Name, entered}
@@ -17,7 +17,7 @@ use borrow.Author.Needs.{needs}
 use Rattle.enter_pair.proofs.add_tagged.Statement.{statement}
 use Rattle.enter_pair.proofs.add_tagged.Tie as tie
 
-is-tagged : (text tag : Bytes) (st : State) (x : Name) → x ≡ entered 2 text tag → HasKey 2 (keyOf Tag tag text) st x
+is-tagged : (text tag : Bytes) (st : State) (x : Name) → x ≡ entered 2 text tag → HasKey 2 (keyBytes Tag tag text) st x
 is-tagged text tag st x m = rw m (by-rest 2 _ st (entered 2 text tag) refl refl (packed-key text tag))
 
 hash-requires : tie.Need-hash-requires
@@ -28,7 +28,7 @@ add-str-requires c κs =
     let z = c .before .before .before .before .before .before .before in
     let a = z .args in
     let L = z .pre .0 in (
-      record { ranged = L .ranged; pages-fit = L .pages-fit; lists-fit = L .lists-fit; kinded = L .kinded },
+      record { ranged = L .ranged; pages-fit = L .pages-fit; lists-fit = L .lists-fit; known = L .known },
       (omega (arith, length-key Tag (a .tag .now) (a .text .now), length-bytes Tag (a .tag .now), z .pre .1, limit-fits (a .s) (L .ranged)), (c .before .before .hash .ensures, λ p. absurd (false≢true p))),
     )
 

@@ -69,7 +69,7 @@ take-block-requires c κs =
     let z = entered i in
     let L = z .pre .0 .0 in
     let F = z .pre .1 .0 in
-    (L .ranged, omega (arith, L .lists-fit, i .insert .kept, j .insert2 .kept), L .kinded, F .local, F .block)
+    (L .ranged, omega (arith, L .lists-fit, i .insert .kept, j .insert2 .kept), L .known, F .local, F .block)
 
 number-in-requires : tie.Need-number-in-requires
 number-in-requires c κs =

@@ -12,7 +12,7 @@ use Rattle.bytes_dictionary.specs.declared.Counted.the-variants.{Entries}
 use Rattle.bytes_dictionary.specs.Reading.{countIn}
 use Rattle.bytes_dictionary.specs.Written.{IsSpot}
 use Rattle.model.specs.Kinds.{row}
-use Rattle.enter.specs.Answers.{Reserves}
+use Rattle.enter.specs.Answers.{Chooses}
 use Rattle.enter.proofs.Steps.{countWord, counted-main}
 use Rattle.enter.proofs.Plans.{spot-legal}
 use Rattle.enter_pair.proofs.Plans.{Counts, plans-uncounted, plans-full, plans-unpaged, plans-headless, plans-pairless, plans-blockless, plans-ready}
@@ -185,8 +185,8 @@ returns-5 c =
 enum-told-4 : tie.Need-enum-told-4
 enum-told-4 c = search needs
 
-reserve-requires : tie.Need-reserve-requires
-reserve-requires c κs =
+choose-block-requires : tie.Need-choose-block-requires
+choose-block-requires c κs =
     let p = entered (headed (c .before .before .before) .before .before .before) .pre .0 in
     (p .0, p .1, p .2)
 
@@ -204,7 +204,7 @@ returns-6 c =
     let h = t .before .before .before in
     let u = h .before .before .before in
     plans-ready _ _ _ _ _ _ (entered u .pre .0 .2) _ _ (read u) _ (head-planned h) (head-spotted t) _ (pair-planned q) (pair-spotted (r .before)) _ _ (short u .0) (short u .1) (h .plan .ensures .1) (pair-inside q)
-    (subst (Reserves _ _ _ _) (c .before .g .given .1) (r .reserve .ensures))
+    (subst (Chooses _ _ _ _) (c .before .g .given .1) (r .choose-block .ensures))
 
 returns-7 : tie.Need-returns-7
 returns-7 c =
@@ -214,7 +214,7 @@ returns-7 c =
     let h = t .before .before .before in
     let u = h .before .before .before in
     plans-blockless _ _ _ _ _ _ (entered u .pre .0 .2) _ _ (read u) _ (head-planned h) (head-spotted t) _ (pair-planned q) (pair-spotted (r .before)) _
-    (subst (Reserves _ _ _ _) (c .before .why3 .given .1) (r .reserve .ensures))
+    (subst (Chooses _ _ _ _) (c .before .why3 .given .1) (r .choose-block .ensures))
 
 pub plan-pair-spec : {M : Type 1} → statement M
 plan-pair-spec =
@@ -242,7 +242,7 @@ plan-pair-spec =
     enum-known-why-2
     returns-5
     enum-told-4
-    reserve-requires
+    choose-block-requires
     enum-known-g
     enum-known-why-3
     returns-6

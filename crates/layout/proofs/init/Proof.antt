@@ -17,8 +17,8 @@ use Rattle.layout.proofs.init.Tie as tie
 list-bytes-requires : tie.Need-list-bytes-requires
 list-bytes-requires c κs = search needs
 
-clear-requires : tie.Need-clear-requires
-clear-requires c κs = search needs
+fill-zero-requires : tie.Need-fill-zero-requires
+fill-zero-requires c κs = search needs
 
 put-word-requires : tie.Need-put-word-requires
 unfolding listBytes
@@ -69,14 +69,14 @@ returns c =
     let z = f .before .before .before .before in
     let l = z .before .before in
     let a = l .before .before .args in
-    stores (a .s) (a .lists .now) (l .list-bytes .ensures) (z .clear .ensures) (f .put-word .ensures) (p .put-word2 .ensures) (n .put-word3 .ensures) (e .put-word4 .ensures) (w .put-word5 .ensures) (b .put-word6 .ensures)
+    stores (a .s) (a .lists .now) (l .list-bytes .ensures) (z .fill-zero .ensures) (f .put-word .ensures) (p .put-word2 .ensures) (n .put-word3 .ensures) (e .put-word4 .ensures) (w .put-word5 .ensures) (b .put-word6 .ensures)
 
 pub init-spec : {M : Type 1} → statement M
 init-spec =
     tie.close
     (tie.spec
     list-bytes-requires
-    clear-requires
+    fill-zero-requires
     put-word-requires
     put-word-requires-2
     put-word-requires-3

@@ -18,7 +18,7 @@ owner c r e =
     let a = c .before .before .before .args in
     subst (λ (x : Owner). Locals (a .s) (a .lists .now) (a .number .0) x) e (c .global-to-local .ensures)
 
-looked : (c : tie.After-locate) (r : Lookup) → c .locate .result ≡ r →
+looked : (c : tie.After-look-up) (r : Lookup) → c .look-up .result ≡ r →
     let a = c .before .before .before .before .before .before .before .before .before .args in
     let k = c .before .before .before .before .k .given .0 in
     Looked (a .s) (row (k .0) .mainAt) (k .1 .0 .0) (a .lists .now) r
@@ -26,7 +26,7 @@ looked c r e =
     let a = c .before .before .before .before .before .before .before .before .before .args in
     let k = c .before .before .before .before .k .given .0 in
     subst (λ (x : Lookup). Looked (a .s) (row (k .0) .mainAt) (k .1 .0 .0) (a .lists .now) x) e
-    (rw (c .before .before .main-dictionary .ensures .0, c .before .local-to-entry .ensures) at (c .locate .ensures))
+    (rw (c .before .before .main-dictionary .ensures .0, c .before .local-to-entry .ensures) at (c .look-up .ensures))
 
 global-to-local-requires : tie.Need-global-to-local-requires
 global-to-local-requires c κs = search needs
@@ -40,8 +40,8 @@ main-dictionary-requires c κs = owner (c .before .before .before) _ (c .before 
 local-to-entry-requires : tie.Need-local-to-entry-requires
 local-to-entry-requires c κs = search needs
 
-locate-requires : tie.Need-locate-requires
-locate-requires c κs = search needs
+look-up-requires : tie.Need-look-up-requires
+look-up-requires c κs = search needs
 
 enum-known-at : tie.Need-enum-known-at
 enum-known-at c = search needs
@@ -101,7 +101,7 @@ locate-name-spec =
     enum-known-k
     main-dictionary-requires
     local-to-entry-requires
-    locate-requires
+    look-up-requires
     enum-known-at
     locate-entry-requires
     enum-told

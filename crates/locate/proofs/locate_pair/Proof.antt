@@ -6,7 +6,7 @@ use native.Mathlib.Omega.{arith}
 use lib.ListN.{take, drop}
 use Rattle.layout.proofs.Ranges.{page-bytes}
 use Rattle.ranked_pair_dictionary.specs.declared.FrequentId.{FrequentId}
-use Rattle.ranked_pair_dictionary.specs.FrequentId.{readAnswer}
+use Rattle.ranked_pair_dictionary.specs.FrequentId.{readFidAnswer}
 use Rattle.bytes_dictionary.specs.declared.Lookup.{Lookup}
 use Rattle.bytes_dictionary.specs.declared.Lookup.the-variants.{At}
 use Rattle.bytes_dictionary.specs.Reading.{Looked}
@@ -19,13 +19,13 @@ use Rattle.locate.proofs.locate_pair.Tie as tie
 -- The frequent id of the entry.
 lead : (c : tie.After-read-frequent-id) (r : FrequentId) → c .read-frequent-id .result ≡ r →
     let a = c .before .before .before .before .args in
-    readAnswer (take (a .len) (drop (a .at) (a .pages .now))) ≡ r
-lead c r e = ap readAnswer (sym (c .before .id-to-bytes .ensures)) ∙ sym (c .read-frequent-id .ensures) ∙ e
+    readFidAnswer (take (a .len) (drop (a .at) (a .pages .now))) ≡ r
+lead c r e = ap readFidAnswer (sym (c .before .id-to-bytes .ensures)) ∙ sym (c .read-frequent-id .ensures) ∙ e
 
-looked : (c : tie.After-locate) →
+looked : (c : tie.After-look-up) →
     let a = c .before .before .before .before .before .before .before .before .before .args in
-    Looked (a .s) (row (a .k) .headsAt) (c .before .before .before .lead .given .0 .0) (a .lists .now) (c .locate .result)
-looked c = rw (c .before .head-dictionary .ensures .0) at (c .locate .ensures)
+    Looked (a .s) (row (a .k) .headsAt) (c .before .before .before .lead .given .0 .0) (a .lists .now) (c .look-up .result)
+looked c = rw (c .before .head-dictionary .ensures .0) at (c .look-up .ensures)
 
 -- The frequent id lies in the entry, and its head was found.
 within : (c : tie.After-known-told2) →
@@ -74,8 +74,8 @@ returns c =
 head-dictionary-requires : tie.Need-head-dictionary-requires
 head-dictionary-requires c κs = search needs
 
-locate-requires : tie.Need-locate-requires
-locate-requires c κs = search needs
+look-up-requires : tie.Need-look-up-requires
+look-up-requires c κs = search needs
 
 enum-known-head : tie.Need-enum-known-head
 enum-known-head c = search needs
@@ -85,7 +85,7 @@ returns-2 c =
     let l = c .before .before .before .before in
     let z = l .before .before .before .before .before .before in
     bad-head (z .args .s) _ _ _ _ _ (z .pre .1 .0) (z .pre .1 .1) (z .pre .0 .1) (z .pre .1 .2) _ _ (lead (l .before .before) _ (l .lead .given .1))
-    (c .before .locate .result) (c .match2 .keys2) (looked (c .before))
+    (c .before .look-up .result) (c .match2 .keys2) (looked (c .before))
 
 sub-rest-len : tie.Need-sub-rest-len
 sub-rest-len c = within c
@@ -122,7 +122,7 @@ locate-pair-spec =
     enum-told
     returns
     head-dictionary-requires
-    locate-requires
+    look-up-requires
     enum-known-head
     returns-2
     sub-rest-len

@@ -8,15 +8,15 @@ use Rattle.namedict.proofs.namedict_write_fid.Tie as tie
 write-frequent-id-requires : tie.Need-write-frequent-id-requires
 write-frequent-id-requires c κs = search needs
 
-written-requires : tie.Need-written-requires
-written-requires c κs = search needs
+written-numbers-requires : tie.Need-written-numbers-requires
+written-numbers-requires c κs = search needs
 
 same-length : tie.Need-same-length
 same-length c = search needs
 
 returns : tie.Need-returns
-returns c = (c .written .ensures ∙ ap writtenNumbers (c .before .before .before .write-frequent-id .ensures .0), c .before .before .before .write-frequent-id .ensures .1)
+returns c = (c .written-numbers .ensures ∙ ap writtenNumbers (c .before .before .before .write-frequent-id .ensures .0), c .before .before .before .write-frequent-id .ensures .1)
 
 pub namedict-write-fid-spec : {M : Type 1} → statement M
 namedict-write-fid-spec =
-    tie.close (tie.spec write-frequent-id-requires written-requires same-length returns)
+    tie.close (tie.spec write-frequent-id-requires written-numbers-requires same-length returns)

@@ -33,14 +33,14 @@ returns c =
     let x = escaped (z .s .now) in
     sym (same-length (x ++ 62 ∷ []) (z .stored .now) (omega (arith, length-append x (62 ∷ []), c .before .measure-escaped .ensures, c .if1 .taken)))
 
-byte-stands-requires : tie.Need-byte-stands-requires
-byte-stands-requires c κs = search needs
+has-byte-requires : tie.Need-has-byte-requires
+has-byte-requires c κs = search needs
 
 returns-2 : tie.Need-returns-2
 returns-2 c =
     let n = c .before .before .before .measure-escaped in
     let z = c .before .before .before .before .before .before .args in
-    let p = c .before .byte-stands in
+    let p = c .before .has-byte in
     sym (split-last (escaped (z .s .now)) (z .stored .now) (n .result) 62 (n .ensures) (omega arith)
     ∙ rw (sym (p .ensures) ∙ not-true _ (c .if2 .taken)) (sym (and-false (sameBytes (escaped (z .s .now)) (take (n .result) (z .stored .now))))))
 
@@ -54,7 +54,7 @@ returns-3 : tie.Need-returns-3
 returns-3 c =
     let n = c .before .before .before .before .before .measure-escaped in
     let z = c .before .before .before .before .before .before .before .before .args in
-    let p = c .before .before .before .byte-stands in
+    let p = c .before .before .before .has-byte in
     c .same-escaped .ensures
     ∙ sym (split-last (escaped (z .s .now)) (z .stored .now) (n .result) 62 (n .ensures) (omega arith)
     ∙ rw (sym (p .ensures) ∙ not-false _ (c .before .before .if2 .left)) (sym (and-true _)))
@@ -66,7 +66,7 @@ same-closed-spec =
     measure-escaped-requires
     add-if1
     returns
-    byte-stands-requires
+    has-byte-requires
     returns-2
     slice-aggregate-same-escaped
     same-escaped-requires

@@ -37,13 +37,13 @@ Inv-loop s stored at₀ i₀ at i = (i ≤ length s) × (at ≤ length stored) �
 abbrev μ-loop : tie.MeasureT-loop
 μ-loop s stored at₀ i₀ at i = length s - i
 
--- Past the test the form stands at `at`, and ends within what is stored.
+-- Past the test the form has-stored at `at`, and ends within what is stored.
 stood : (c : tie.After-width Inv-loop μ-loop) →
     let x = storedBytes (c .before .before .before .escape-byte .result) in
     let at = c .before .before .before .before .before .before .loop .at in
     sameBytes x (take (length x) (drop at (c .before .before .before .before .before .before .before .before .before .args .stored .now))) ≡ true
 stood c =
-    let p = c .before .before .stands in
+    let p = c .before .before .has-stored in
     sym (p .ensures) ∙ not-false (p .result) (c .before .if1 .left)
 
 ends : (c : tie.After-width Inv-loop μ-loop) →
@@ -63,12 +63,12 @@ shared-slice-read-escape-byte c = omega arith
 escape-byte-requires : tie.Need-escape-byte-requires Inv-loop μ-loop
 escape-byte-requires c κs = search needs
 
-stands-requires : tie.Need-stands-requires Inv-loop μ-loop
-stands-requires c κs = omega arith
+has-stored-requires : tie.Need-has-stored-requires Inv-loop μ-loop
+has-stored-requires c κs = omega arith
 
 returns : tie.Need-returns Inv-loop μ-loop
 returns c =
-    let p = c .before .stands in
+    let p = c .before .has-stored in
     let u = c .before .before .escape-byte in
     let l = c .before .before .before .before .before .loop in
     let z = c .before .before .before .before .before .before .before .before .args in
@@ -113,7 +113,7 @@ same-escaped-spec =
     loop-holds
     shared-slice-read-escape-byte
     escape-byte-requires
-    stands-requires
+    has-stored-requires
     returns
     width-requires
     add-at

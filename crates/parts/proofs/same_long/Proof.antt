@@ -1,4 +1,4 @@
--- The byte in front is compared, and then what stands behind it. Assumes nothing.
+-- The byte in front is compared, and then what has-stored behind it. Assumes nothing.
 use Prim.Native.Nat.{_≤_}
 use mathlib.Core.Path.{_≡_, sym, _∙_}
 use mathlib.Core.Bool.{true}
@@ -14,18 +14,18 @@ use Rattle.parts.proofs.same_long.Tie as tie
 
 -- The byte in front is there.
 there : (c : tie.Else1) → let z = c .before .before .before .before .args in sameBytes (0 ∷ []) (take 1 (z .stored .now)) ≡ true
-there c = sym (c .before .byte-stands .ensures) ∙ not-false _ (c .if1 .left)
+there c = sym (c .before .has-byte .ensures) ∙ not-false _ (c .if1 .left)
 
 long-enough : (c : tie.Else1) → 1 ≤ length (c .before .before .before .before .args .stored .now)
 long-enough c = let z = c .before .before .before .before .args in same-front (0 ∷ []) (z .stored .now) (there c)
 
-byte-stands-requires : tie.Need-byte-stands-requires
-byte-stands-requires c κs = search needs
+has-byte-requires : tie.Need-has-byte-requires
+has-byte-requires c κs = search needs
 
 returns : tie.Need-returns
 returns c =
     let z = c .before .before .before .before .args in
-    same-not (0) (escaped (z .s .now) ++ 62 ∷ []) (z .stored .now) (sym (c .before .byte-stands .ensures) ∙ not-true _ (c .if1 .taken))
+    same-not (0) (escaped (z .s .now) ++ 62 ∷ []) (z .stored .now) (sym (c .before .has-byte .ensures) ∙ not-true _ (c .if1 .taken))
 
 sub-same-closed : tie.Need-sub-same-closed
 sub-same-closed c = long-enough c
@@ -48,7 +48,7 @@ pub same-long-spec : {M : Type 1} → statement M
 same-long-spec =
     tie.close
     (tie.spec
-    byte-stands-requires
+    has-byte-requires
     returns
     sub-same-closed
     part-same-closed-start

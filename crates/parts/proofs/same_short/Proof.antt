@@ -1,4 +1,4 @@
--- The byte in front is compared, and then what stands behind it. Assumes nothing.
+-- The byte in front is compared, and then what has-stored behind it. Assumes nothing.
 use Prim.Native.Nat.{_≤_}
 use mathlib.Core.Path.{_≡_, sym, _∙_}
 use mathlib.Core.Bool.{true}
@@ -13,21 +13,21 @@ use Rattle.parts.proofs.same_short.Tie as tie
 
 -- The byte in front is there.
 there : (c : tie.Else1) → let z = c .before .before .before .before .args in sameBytes (length (z .s .now) ∷ []) (take 1 (z .stored .now)) ≡ true
-there c = sym (c .before .byte-stands .ensures) ∙ not-false _ (c .if1 .left)
+there c = sym (c .before .has-byte .ensures) ∙ not-false _ (c .if1 .left)
 
 long-enough : (c : tie.Else1) → 1 ≤ length (c .before .before .before .before .args .stored .now)
 long-enough c = let z = c .before .before .before .before .args in same-front (length (z .s .now) ∷ []) (z .stored .now) (there c)
 
-cast-byte-stands : tie.Need-cast-byte-stands
-cast-byte-stands c = search needs
+cast-has-byte : tie.Need-cast-has-byte
+cast-has-byte c = search needs
 
-byte-stands-requires : tie.Need-byte-stands-requires
-byte-stands-requires c κs = search needs
+has-byte-requires : tie.Need-has-byte-requires
+has-byte-requires c κs = search needs
 
 returns : tie.Need-returns
 returns c =
     let z = c .before .before .before .before .args in
-    same-not (length (z .s .now)) (z .s .now) (z .stored .now) (sym (c .before .byte-stands .ensures) ∙ not-true _ (c .if1 .taken))
+    same-not (length (z .s .now)) (z .s .now) (z .stored .now) (sym (c .before .has-byte .ensures) ∙ not-true _ (c .if1 .taken))
 
 sub-same-raw : tie.Need-sub-same-raw
 sub-same-raw c = long-enough c
@@ -50,8 +50,8 @@ pub same-short-spec : {M : Type 1} → statement M
 same-short-spec =
     tie.close
     (tie.spec
-    cast-byte-stands
-    byte-stands-requires
+    cast-has-byte
+    has-byte-requires
     returns
     sub-same-raw
     part-same-raw-start

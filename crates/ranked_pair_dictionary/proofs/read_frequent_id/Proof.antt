@@ -12,22 +12,22 @@ use lib.Seq.{drop-cons, getD-take, getD-drop}
 use Rattle.slices.specs.Bytes.{Bytes}
 use Rattle.refusals.specs.declared.Refusal.the-variants.{CutForm}
 use Rattle.ranked_pair_dictionary.specs.declared.FrequentId.the-variants.{Value, Refused}
-use Rattle.ranked_pair_dictionary.specs.FrequentId.{ofBe, readFurther, readAnswer}
+use Rattle.ranked_pair_dictionary.specs.FrequentId.{ofBe, readFurther, readFidAnswer}
 use Rattle.ranked_pair_dictionary.proofs.read_frequent_id.Statement.{statement}
 use Rattle.ranked_pair_dictionary.proofs.read_frequent_id.Tie as tie
 
-empty : (s : Bytes) → length s ≡ 0 → Refused CutForm ≡ readAnswer s
-unfolding readAnswer
+empty : (s : Bytes) → length s ≡ 0 → Refused CutForm ≡ readFidAnswer s
+unfolding readFidAnswer
 empty [] h = refl
 empty (b ∷ s) h = absurd (omega arith)
 
 -- The answer, by the first byte and the bytes behind it.
-answer : (s : Bytes) → 0 < length s → readAnswer s ≡ readFurther (getD s 0 0 / 64) (getD s 0 0 % 64) (drop 1 s)
-unfolding readAnswer
+answer : (s : Bytes) → 0 < length s → readFidAnswer s ≡ readFurther (getD s 0 0 / 64) (getD s 0 0 % 64) (drop 1 s)
+unfolding readFidAnswer
 answer [] h = absurd (omega arith)
 answer (b ∷ s) h = refl
 
-cut : (s : Bytes) (b : ℕ) → b ≡ getD s 0 0 → 0 < length s → length s ≤ b / 64 → Refused CutForm ≡ readAnswer s
+cut : (s : Bytes) (b : ℕ) → b ≡ getD s 0 0 → 0 < length s → length s ≤ b / 64 → Refused CutForm ≡ readFidAnswer s
 unfolding readFurther
 cut s b e h l = rw (answer s h, ← e, lt-leb (b / 64) (length (drop 1 s)) (omega (arith, length-drop 1 s)))
 
@@ -47,7 +47,7 @@ low : (d v : ℕ) → d ≤ 2 → v < 64 * 256 ^ d → v < 4194304
 low d v h l = let p : 256 ^ d ≤ 256 ^ 2 = pow-le-pow-right (omega arith) h in omega arith
 
 whole : (s : Bytes) (b n d v : ℕ) → b ≡ getD s 0 0 → n ≡ b / 64 → n < length s → n ≤ d
-    → ofBe v (drop d (take n (drop 1 s))) ≡ ofBe (b % 64) (take n (drop 1 s)) → Value v (n + 1) ≡ readAnswer s
+    → ofBe v (drop d (take n (drop 1 s))) ≡ ofBe (b % 64) (take n (drop 1 s)) → Value v (n + 1) ≡ readFidAnswer s
 unfolding readFurther
 whole s b n d v e f l g h =
     let k : length (drop 1 s) ≡ length s - 1 = length-drop 1 s in

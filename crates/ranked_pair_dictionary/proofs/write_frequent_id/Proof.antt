@@ -14,7 +14,7 @@ use Rattle.slices.specs.Bytes.{Bytes}
 use Rattle.refusals.specs.declared.Refusal.{Refusal}
 use Rattle.refusals.specs.declared.Refusal.the-variants.{ShortBuffer, HighNumber}
 use Rattle.refusals.specs.declared.Written.the-variants.{Length, Refused}
-use Rattle.ranked_pair_dictionary.specs.FrequentId.{be, frequentId, furtherBytes, fid, writeRefusal, writeAnswer, writeBuffer}
+use Rattle.ranked_pair_dictionary.specs.FrequentId.{be, frequentId, furtherBytes, fid, writeRefusal, writeFidAnswer, writeFidBuffer}
 use Rattle.ranked_pair_dictionary.proofs.Laws.{top, length-frequentId, length-fid, fid-holds, write-high, write-short, write-done}
 use Rattle.ranked_pair_dictionary.proofs.write_frequent_id.Statement.{statement}
 use Rattle.ranked_pair_dictionary.proofs.write_frequent_id.Tie as tie
@@ -39,8 +39,8 @@ small : (v n d high : ℕ) → d ≡ n → n ≡ furtherBytes v → v < 2 ^ 30 �
 small v n d high p q l h = rw (h, p, q) (top (furtherBytes v) v (fid-holds v l))
 
 refused : (v : ℕ) (b : Bytes) (why : Refusal) → writeRefusal v (length b) ≡ some why
-    → (Refused why ≡ writeAnswer v (length b)) × (b ≡ writeBuffer v b)
-unfolding writeAnswer writeBuffer
+    → (Refused why ≡ writeFidAnswer v (length b)) × (b ≡ writeFidBuffer v b)
+unfolding writeFidAnswer writeFidBuffer
 refused v b why e = (rw e, rw e)
 
 -- The first byte, in front of all further ones.
@@ -54,8 +54,8 @@ whole b n v l =
     ∙ ap (λ (m : ℕ). frequentId n v ++ drop m b) k
 
 written : (b now : Bytes) (n d v high : ℕ) → d ≡ n → n ≡ furtherBytes v → v < 2 ^ 30 → n < length b → high ≡ v / 256 ^ d
-    → now ≡ sets b (n - d + 1) (be d v) → (Length (n + 1) ≡ writeAnswer v (length b)) × (set now 0 (64 * n + high) ≡ writeBuffer v b)
-unfolding writeAnswer writeBuffer fid
+    → now ≡ sets b (n - d + 1) (be d v) → (Length (n + 1) ≡ writeFidAnswer v (length b)) × (set now 0 (64 * n + high) ≡ writeFidBuffer v b)
+unfolding writeFidAnswer writeFidBuffer fid
 written b now n d v high p q l r h e =
     let z : writeRefusal v (length b) ≡ none = write-done v (length b) l (omega arith) in
     let k : length (fid v) ≡ n + 1 = length-fid v ∙ ap (λ (m : ℕ). m + 1) (sym q) in

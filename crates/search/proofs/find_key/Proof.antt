@@ -1,7 +1,7 @@
 -- Each answer of the search in the kind's main dictionary. Assumes nothing.
 use mathlib.Core.Path.{subst}
 use borrow.Author.Needs.{needs}
-use Rattle.bytes_index.specs.Search.{keyOf, Searched}
+use Rattle.bytes_index.specs.Search.{keyBytes, Searched}
 use Rattle.search.proofs.Finds.{key-at, key-free, key-bad}
 use Rattle.search.proofs.find_key.Statement.{statement}
 use Rattle.search.proofs.find_key.Tie as tie
@@ -30,8 +30,8 @@ returns c =
     let z = b .before .before .before .before .before .before in
     let a = z .args in
     let d = b .before .main-dictionary in
-    let key = keyOf (a .mode) (a .front .now) (a .rest .now) in
-    key-at (a .s) (a .pages .now) (a .lists .now) (a .k) (d .result) key (z .pre .0 .kinded) (d .ensures .0) (c .before .before .i .given .0 .0)
+    let key = keyBytes (a .mode) (a .front .now) (a .rest .now) in
+    key-at (a .s) (a .pages .now) (a .lists .now) (a .k) (d .result) key (z .pre .0 .known) (d .ensures .0) (c .before .before .i .given .0 .0)
     (c .entry-to-local .result) (c .entry-to-local .ensures)
     (subst (Searched (a .s) (d .result) (a .pages .now) (a .lists .now) key) (c .before .before .i .given .1) (b .bytes-to-id .ensures))
 
@@ -41,8 +41,8 @@ returns-2 c =
     let z = b .before .before .before .before .before .before in
     let a = z .args in
     let d = b .before .main-dictionary in
-    let key = keyOf (a .mode) (a .front .now) (a .rest .now) in
-    key-free (a .s) (a .pages .now) (a .lists .now) (a .k) (d .result) key (z .pre .0 .kinded) (d .ensures .0) _
+    let key = keyBytes (a .mode) (a .front .now) (a .rest .now) in
+    key-free (a .s) (a .pages .now) (a .lists .now) (a .k) (d .result) key (z .pre .0 .known) (d .ensures .0) _
     (subst (Searched (a .s) (d .result) (a .pages .now) (a .lists .now) key) (c .enum-told .given .1) (b .bytes-to-id .ensures))
 
 returns-3 : tie.Need-returns-3
@@ -51,8 +51,8 @@ returns-3 c =
     let z = b .before .before .before .before .before .before in
     let a = z .args in
     let d = b .before .main-dictionary in
-    let key = keyOf (a .mode) (a .front .now) (a .rest .now) in
-    key-bad (a .s) (a .pages .now) (a .lists .now) (a .k) (d .result) key (z .pre .0 .kinded) (d .ensures .0)
+    let key = keyBytes (a .mode) (a .front .now) (a .rest .now) in
+    key-bad (a .s) (a .pages .now) (a .lists .now) (a .k) (d .result) key (z .pre .0 .known) (d .ensures .0)
     (subst (Searched (a .s) (d .result) (a .pages .now) (a .lists .now) key) (c .enum-told2 .given .1) (b .bytes-to-id .ensures))
 
 pub find-key-spec : {M : Type 1} → statement M

@@ -10,7 +10,7 @@ use lib.Seq.{length-take-le}
 use Rattle.slices.specs.Bytes.{Bytes}
 use Rattle.parts.specs.declared.Mode.the-variants.{Raw}
 use Rattle.parts.specs.Parts.{bytesOf}
-use Rattle.bytes_index.specs.Search.{keyOf}
+use Rattle.bytes_index.specs.Search.{keyBytes}
 use Rattle.utf8.specs.Text.{isText}
 use Rattle.model.specs.Names.{Name, entered}
 use Rattle.model.specs.Kinds.{row}
@@ -18,14 +18,14 @@ use Rattle.model.proofs.Legal.{legal-shape}
 use Rattle.names.proofs.Rows.{paired, shape-second}
 use Rattle.names.proofs.Pairs.{is-pair}
 use Rattle.search.proofs.Leads.{whole-hash, scanned-hash, raw-short}
-use Rattle.search.proofs.Plain.{plain-text, pair-plain}
+use Rattle.search.proofs.Ascii.{ascii-text, pair-ascii}
 use Rattle.search.proofs.Finds.{same-names, by-key}
 use Rattle.search.proofs.find_name.Statement.{statement}
 use Rattle.search.proofs.find_name.Tie as tie
 
 -- What the arguments of a string stand for.
 module _ (k : ℕ) (first second : Bytes) (a : Name) (m : a ≡ entered k first second) where
-  is-plain : k ≡ 1 → (a .kind ≡ 1) × (row 1 .rest a ≡ keyOf Raw [] first)
+  is-plain : k ≡ 1 → (a .kind ≡ 1) × (row 1 .rest a ≡ keyBytes Raw [] first)
   unfolding bytesOf
   is-plain z = rw (m, z) (refl, refl)
 
@@ -36,7 +36,7 @@ module _ (k : ℕ) (first second : Bytes) (a : Name) (m : a ≡ entered k first 
 has-heads : (c : tie.Else2) → row (c .before .before .before .before .before .before .args .kind) .paired ≡ true
 has-heads c =
     let z = c .before .before .before .before .before .before in
-    paired (z .args .kind) (z .pre .0 .kinded) (c .before .if1 .left) (c .if2 .left)
+    paired (z .args .kind) (z .pre .0 .known) (c .before .if1 .left) (c .if2 .left)
 
 slice-aggregate-none : tie.Need-slice-aggregate-none
 slice-aggregate-none c = search needs
@@ -62,7 +62,7 @@ returns c =
           (λ x e m. is-plain (a .kind) (a .first .now) (a .second .now) x m (t .if1 .taken))
           (k .find-key .ensures),
       λ p. (
-        plain-text (a .first .now) 0 (subst (λ (n : ℕ). n < 128) (x .scan .ensures .1) (ltb-true _ _ p)),
+        ascii-text (a .first .now) 0 (subst (λ (n : ℕ). n < 128) (x .scan .ensures .1) (ltb-true _ _ p)),
         rw (shape-second (a .s) (entered (a .kind) (a .first .now) (a .second .now)) (z .pre .1) (omega (arith, t .if1 .taken))),
       ),
     )
@@ -98,10 +98,10 @@ returns-3 c =
     let z = n .before .before .before .before .before .before .before in
     let a = z .args in (
       same-names (a .s) (a .pages .now) (a .lists .now) _ _ (c .find-pair .result .found)
-          (λ x e m. is-pair (a .kind) (a .first .now) (a .second .now) _ (n .head-length .result) (z .pre .0 .kinded) (has-heads (n .before)) (n .head-length .ensures .0) (r .rest-behind .ensures) x m)
+          (λ x e m. is-pair (a .kind) (a .first .now) (a .second .now) _ (n .head-length .result) (z .pre .0 .known) (has-heads (n .before)) (n .head-length .ensures .0) (r .rest-behind .ensures) x m)
           (c .find-pair .ensures .0),
       λ p.
-          pair-plain (a .kind) (a .first .now) (a .second .now) _ (n .head-length .result) (n .head-length .ensures .0) (n .head-length .ensures .1) (r .rest-behind .ensures)
+          pair-ascii (a .kind) (a .first .now) (a .second .now) _ (n .head-length .result) (n .head-length .ensures .0) (n .head-length .ensures .1) (r .rest-behind .ensures)
           (shape-second (a .s) (entered (a .kind) (a .first .now) (a .second .now)) (z .pre .1))
           (c .find-pair .ensures .1 p),
     )

@@ -117,7 +117,7 @@ returns-2 c =
     let z = x .before .before .before .before .before in
     let a = z .args in
     let g = f .f .given .0 .0 in (
-      pair-at (a .s) (a .pages .now) (a .lists .now) (a .k) (z .pre .0 .kinded) (z .pre .1) (a .head .now) (a .rest .now) g (k .find-key .result) (at-f f)
+      pair-at (a .s) (a .pages .now) (a .lists .now) (a .k) (z .pre .0 .known) (z .pre .1) (a .head .now) (a .rest .now) g (k .find-key .result) (at-f f)
           (rw (lead-key g zeros (small f) (omega arith) _ (a .rest .now) _ (w .write-frequent-id .ensures .1) (length-n t)) at (k .find-key .ensures)),
       λ p. subst (λ (n : ℕ). n < 128) (y .scan2 .ensures .1 ∙ ap (λ (b : ℕ). bitsFrom b (a .rest .now)) (x .scan .ensures .1)) (ltb-true _ _ p),
     )
@@ -126,7 +126,7 @@ returns-3 : tie.Need-returns-3
 returns-3 c =
     let z = c .before .before .before .before .before .before .before .before in
     let a = z .args in (
-      pair-free (a .s) (a .pages .now) (a .lists .now) (a .k) (z .pre .0 .kinded) (z .pre .1) (a .head .now) (a .rest .now) _
+      pair-free (a .s) (a .pages .now) (a .lists .now) (a .k) (z .pre .0 .known) (z .pre .1) (a .head .now) (a .rest .now) _
           (subst (Searched (a .s) (row (a .k) .headsAt) (a .pages .now) (a .lists .now) (a .head .now)) (c .enum-told2 .given .1) (c .before .before .find-head .ensures)),
       λ p. absurd (false≢true p),
     )
@@ -135,7 +135,7 @@ returns-4 : tie.Need-returns-4
 returns-4 c =
     let z = c .before .before .before .before .before .before .before .before in
     let a = z .args in (
-      pair-bad (a .s) (a .pages .now) (a .lists .now) (a .k) (z .pre .0 .kinded) (z .pre .1) (a .head .now) (a .rest .now)
+      pair-bad (a .s) (a .pages .now) (a .lists .now) (a .k) (z .pre .0 .known) (z .pre .1) (a .head .now) (a .rest .now)
           (subst (Searched (a .s) (row (a .k) .headsAt) (a .pages .now) (a .lists .now) (a .head .now)) (c .enum-told3 .given .1) (c .before .before .find-head .ensures)),
       λ p. absurd (false≢true p),
     )

@@ -6,7 +6,7 @@ use Rattle.slices.specs.Bytes.{Bytes}
 use Rattle.layout.proofs.Ranges.{page-size, limit-fits}
 use Rattle.parts.specs.declared.Mode.the-variants.{Tag}
 use Rattle.parts.proofs.Laws.{length-bytes}
-use Rattle.bytes_index.specs.Search.{keyOf}
+use Rattle.bytes_index.specs.Search.{keyBytes}
 use Rattle.string_dv_dict.proofs.Keys.{packed-key}
 use Rattle.model.specs.Names.{Name, entered}
 use Rattle.model.specs.Kinds.{row}
@@ -14,7 +14,7 @@ use Rattle.search.proofs.Finds.{by-key}
 use Rattle.search.proofs.find_tagged.Statement.{statement}
 use Rattle.search.proofs.find_tagged.Tie as tie
 
-is-tagged : (text tag : Bytes) (x : Name) → x ≡ entered 2 text tag → (x .kind ≡ 2) × (row 2 .rest x ≡ keyOf Tag tag text)
+is-tagged : (text tag : Bytes) (x : Name) → x ≡ entered 2 text tag → (x .kind ≡ 2) × (row 2 .rest x ≡ keyBytes Tag tag text)
 is-tagged text tag x m = rw m (refl, packed-key text tag)
 
 hash-requires : tie.Need-hash-requires

@@ -14,7 +14,7 @@ use Rattle.utf8.specs.Text.{isText}
 use Rattle.refusals.specs.declared.Refusal.the-variants.{TooLong, NotText, NoTag}
 use Rattle.string_dv_dict.specs.Packed.{pairRefusal}
 use Rattle.refusals.specs.Checked.{checkedBy}
-use Rattle.string_dv_dict.proofs.Laws.{filled, is-legal}
+use Rattle.string_dv_dict.proofs.Laws.{has-bytes, is-legal}
 use Rattle.string_dv_dict.proofs.check_pair.Statement.{statement}
 use Rattle.string_dv_dict.proofs.check_pair.Tie as tie
 
@@ -97,7 +97,7 @@ returns-5 c =
       size = size (e .before .before);
       text-is = text-is e;
       tag-is = tag-is (c .before);
-      tagged = filled (z .tag .now) (c .if4 .left);
+      tagged = has-bytes (z .tag .now) (c .if4 .left);
     })))
 
 pub check-pair-spec : {M : Type 1} → statement M

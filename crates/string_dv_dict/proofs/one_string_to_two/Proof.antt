@@ -6,7 +6,7 @@ use lib.ListN.{length}
 use borrow.Author.Needs.{needs}
 use Rattle.layout.specs.Sizes.{packedLimit}
 use Rattle.string_dv_dict.specs.declared.Form.{Form}
-use Rattle.string_dv_dict.proofs.Located.{Located, form-parts}
+use Rattle.string_dv_dict.proofs.PackedParts.{PackedParts, form-parts}
 use Rattle.string_dv_dict.proofs.Answers.{unpack-long-form, unpack-cut}
 use Rattle.string_dv_dict.proofs.one_string_to_two.Statement.{statement}
 use Rattle.string_dv_dict.proofs.one_string_to_two.Tie as tie
@@ -16,8 +16,8 @@ unfolding packedLimit
 size c = omega (arith, c .if1 .left)
 
 -- What was located, by the answer.
-located : (c : tie.After-locate) (r : Form) → c .locate .result ≡ r → Located (c .before .before .before .before .args .form .now) r
-located c r e = form-parts (c .before .before .before .before .args .form .now) r (sym (c .locate .ensures) ∙ e)
+located : (c : tie.After-split-packed) (r : Form) → c .split-packed .result ≡ r → PackedParts (c .before .before .before .before .args .form .now) r
+located c r e = form-parts (c .before .before .before .before .args .form .now) r (sym (c .split-packed .ensures) ∙ e)
 
 returns : tie.Need-returns
 unfolding packedLimit
@@ -26,8 +26,8 @@ returns c =
     let p = unpack-long-form (z .form .now) (z .buffer .now) (omega (arith, c .if1 .taken)) in
     (sym (p .0), sym (p .1))
 
-locate-requires : tie.Need-locate-requires
-locate-requires c κs = search needs
+split-packed-requires : tie.Need-split-packed-requires
+split-packed-requires c κs = search needs
 
 enum-known-n : tie.Need-enum-known-n
 enum-known-n c = search needs
@@ -74,7 +74,7 @@ one-string-to-two-spec =
     tie.close
     (tie.spec
     returns
-    locate-requires
+    split-packed-requires
     enum-known-n
     unpack-short-requires
     enum-known-end

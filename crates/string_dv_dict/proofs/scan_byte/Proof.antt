@@ -6,8 +6,8 @@ use Rattle.string_dv_dict.proofs.scan_byte.Statement.{statement}
 use Rattle.string_dv_dict.proofs.scan_byte.Tie as tie
 
 -- What is required, said of the count of each arm.
-plain : (c : tie.After-state) → c .state .given .0 .0 + 1 < 18446744073709551616
-plain c = rw (c .state .given .1) at (c .before .before .pre)
+whole : (c : tie.After-state) → c .state .given .0 .0 + 1 < 18446744073709551616
+whole c = rw (c .state .given .1) at (c .before .before .pre)
 
 escape : (c : tie.After-state2) → c .state2 .given .0 .0 + 1 < 18446744073709551616
 escape c = rw (c .state2 .given .1) at (c .before .before .pre)
@@ -22,7 +22,7 @@ returns-2 : tie.Need-returns-2
 returns-2 c = rw (c .before .before .before .state .given .1, ne-eqb _ 62 (c .before .if1 .left), eq-eqb _ 92 (c .if2 .taken))
 
 add-t7 : tie.Need-add-t7
-add-t7 c = record { fits = plain (c .before .before .before) }
+add-t7 c = record { fits = whole (c .before .before .before) }
 
 enum-known-state-2 : tie.Need-enum-known-state-2
 enum-known-state-2 c = search needs

@@ -10,7 +10,7 @@ use lib.ListN.{length, drop, getD, drop-of-length-le}
 use lib.Seq.{drop-cons}
 use Rattle.slices.specs.Bytes.{Bytes}
 use Rattle.string_dv_dict.specs.declared.Scan.{Scan}
-use Rattle.string_dv_dict.specs.declared.Scan.the-variants.{Plain, Escape, Bad}
+use Rattle.string_dv_dict.specs.declared.Scan.the-variants.{Whole, Escape, Bad}
 use Rattle.string_dv_dict.specs.Scans.{scanStep, scanFrom, scanned}
 use Rattle.string_dv_dict.proofs.scan_tag.Statement.{statement}
 use Rattle.string_dv_dict.proofs.scan_tag.Tie as tie
@@ -24,22 +24,22 @@ unfolding scanFrom
 ended st i s l = rw (drop-of-length-le s l)
 
 counted : (st : Scan) (c : ℕ) → scanned (scanStep st c) ≤ scanned st + 1
-counted (Plain n) c = go (eqb c 62) (eqb c 92)
+counted (Whole n) c = go (eqb c 62) (eqb c 92)
   where
-    go : (p q : Bool) → scanned (cond p Bad (cond q (Escape n) (Plain (n + 1)))) ≤ n + 1
+    go : (p q : Bool) → scanned (cond p Bad (cond q (Escape n) (Whole (n + 1)))) ≤ n + 1
     go true q = omega arith
     go false true = omega arith
     go false false = omega arith
 counted (Escape n) c = go (eqb c 92) (eqb c 97)
   where
-    go : (p q : Bool) → scanned (cond p (Plain (n + 1)) (cond q (Plain (n + 1)) Bad)) ≤ n + 1
+    go : (p q : Bool) → scanned (cond p (Whole (n + 1)) (cond q (Whole (n + 1)) Bad)) ≤ n + 1
     go true q = omega arith
     go false true = omega arith
     go false false = omega arith
 counted Bad c = omega arith
 
 abbrev Inv-loop : tie.InvT-loop
-Inv-loop s state₀ i₀ state i = (i ≤ length s) × (scanFrom state (drop i s) ≡ scanFrom (Plain 0) s) × (scanned state ≤ i)
+Inv-loop s state₀ i₀ state i = (i ≤ length s) × (scanFrom state (drop i s) ≡ scanFrom (Whole 0) s) × (scanned state ≤ i)
 
 abbrev μ-loop : tie.MeasureT-loop
 μ-loop s state₀ i₀ state i = length s - i

@@ -10,7 +10,7 @@ use borrow.Author.Tests.{eq-eqb, ne-eqb, le-leb, lt-leb}
 use Rattle.slices.specs.Bytes.{Bytes}
 use Rattle.string_dv_dict.specs.declared.Form.the-variants.{Short, Cut}
 use Rattle.string_dv_dict.specs.Scans.{longSplit, splitOf}
-use Rattle.string_dv_dict.proofs.Located.{to-end}
+use Rattle.string_dv_dict.proofs.PackedParts.{to-end}
 use Rattle.string_dv_dict.proofs.split.Statement.{statement}
 use Rattle.string_dv_dict.proofs.split.Tie as tie
 

@@ -10,7 +10,7 @@ use borrow.Author.Needs.{needs}
 use borrow.Author.Tests.{lt-ltb, le-ltb}
 use Rattle.slices.specs.Bytes.{Bytes}
 use Rattle.string_dv_dict.specs.declared.Scan.{Scan}
-use Rattle.string_dv_dict.specs.declared.Scan.the-variants.{Plain, Escape, Bad}
+use Rattle.string_dv_dict.specs.declared.Scan.the-variants.{Whole, Escape, Bad}
 use Rattle.string_dv_dict.specs.declared.Form.the-variants.{Cut}
 use Rattle.string_dv_dict.specs.Packed.{before}
 use Rattle.string_dv_dict.specs.Scans.{scanFrom, longBy, longSplit}
@@ -24,14 +24,14 @@ module _ (s : Bytes) (end : ℕ) (e : end ≡ length (before s)) where
   unfolding longSplit
   unended p = rw (le-ltb (length (before s)) (length s) (omega arith))
 
-  ended : end < length s → longBy end (scanFrom (Plain 0) (take end s)) ≡ longSplit s
+  ended : end < length s → longBy end (scanFrom (Whole 0) (take end s)) ≡ longSplit s
   unfolding longSplit
   ended l = rw (e, take-before s, lt-ltb (length (before s)) (length s) (omega arith))
 
 -- The scan's other answers.
 other : (end : ℕ) (r : Scan) → (tagOf the-type r ≡ 1) ⊎ (tagOf the-type r ≡ 2) → Cut ≡ longBy end r
-other end (Plain n) (inl p) = absurd (omega arith)
-other end (Plain n) (inr p) = absurd (omega arith)
+other end (Whole n) (inl p) = absurd (omega arith)
+other end (Whole n) (inr p) = absurd (omega arith)
 other end (Escape n) k = refl
 other end Bad k = refl
 
@@ -42,7 +42,7 @@ inside c = omega (arith, length-before (c .before .before .before .args .s .now)
 scanned : (c : tie.Else1) →
     let s = c .before .before .before .args .s .now in
     let end = c .before .find-end .result in
-    longBy end (scanFrom (Plain 0) (take end s)) ≡ longSplit s
+    longBy end (scanFrom (Whole 0) (take end s)) ≡ longSplit s
 scanned c = ended (c .before .before .before .args .s .now) (c .before .find-end .result) (c .before .find-end .ensures) (inside c)
 
 find-end-requires : tie.Need-find-end-requires

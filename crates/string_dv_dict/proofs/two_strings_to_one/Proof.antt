@@ -9,8 +9,8 @@ use Rattle.layout.specs.Sizes.{packedLimit}
 use Rattle.parts.specs.declared.Mode.the-variants.{Tag}
 use Rattle.parts.specs.Parts.{bytesOf}
 use Rattle.string_dv_dict.specs.Packed.{packed, pairRefusal}
-use Rattle.string_dv_dict.proofs.Laws.{legal, length-packed}
-use Rattle.string_dv_dict.proofs.Keys.{length-key, placed-key}
+use Rattle.string_dv_dict.proofs.Laws.{legal-tagged, length-packed}
+use Rattle.string_dv_dict.proofs.Keys.{length-tagged-key, placed-key}
 use Rattle.refusals.proofs.Told.{told-legal, told-illegal}
 use Rattle.string_dv_dict.proofs.Answers.{pack-refused, pack-no-room, pack-done}
 use Rattle.string_dv_dict.proofs.two_strings_to_one.Statement.{statement}
@@ -25,14 +25,14 @@ within : (c : tie.After-enum-told) →
     length (bytesOf Tag (z .tag .now)) + length (z .text .now) ≤ packedLimit
 within c =
     let z = c .before .before .before .before .before .before .args in
-    rw (length-key (z .text .now) (z .tag .now)) (length-packed (z .text .now) (z .tag .now) (legal (z .text .now) (z .tag .now) (pair c)))
+    rw (length-tagged-key (z .text .now) (z .tag .now)) (length-packed (z .text .now) (z .tag .now) (legal-tagged (z .text .now) (z .tag .now) (pair c)))
 
 whole : (c : tie.After-measure) →
     let z = c .before .before .before .before .before .before .before .args in
     c .measure .result + length (z .text .now) ≡ length (packed (z .text .now) (z .tag .now))
 whole c =
     let z = c .before .before .before .before .before .before .before .args in
-    rw (c .measure .ensures) (length-key (z .text .now) (z .tag .now))
+    rw (c .measure .ensures) (length-tagged-key (z .text .now) (z .tag .now))
 
 room : (c : tie.Else1) →
     let z = c .before .before .before .before .before .before .before .before .args in
@@ -70,15 +70,15 @@ returns-2 c =
     let p = pack-no-room (z .text .now) (z .tag .now) (z .buffer .now) (pair (m .before)) (omega (arith, c .if1 .taken, whole m)) in
     (sym (p .0), sym (p .1))
 
-write-at-requires : tie.Need-write-at-requires
-write-at-requires c κs = search needs
+write-stored-requires : tie.Need-write-stored-requires
+write-stored-requires c κs = search needs
 
-write-at-requires-2 : tie.Need-write-at-requires-2
+write-stored-requires-2 : tie.Need-write-stored-requires-2
 unfolding bytesOf
-write-at-requires-2 c κs =
+write-stored-requires-2 c κs =
     let w = c .before .before .before in
     let e = w .before .before in
-    omega (arith, e .if1 .left, w .write-at .kept .1 .1 .0)
+    omega (arith, e .if1 .left, w .write-stored .kept .1 .1 .0)
 
 same-length : tie.Need-same-length
 same-length c = search needs
@@ -93,10 +93,10 @@ returns-3 c =
     let text = z .text .now in
     let tag = z .tag .now in
     let b = z .buffer .now in
-    let p = pack-done text tag b (pair (m .before)) (omega (arith, room e, length-key text tag)) in (
+    let p = pack-done text tag b (pair (m .before)) (omega (arith, room e, length-tagged-key text tag)) in (
       rw (whole m) (sym (p .0)),
-      c .before .before .write-at2 .ensures
-          ∙ rw (w .write-at .ensures, m .measure .ensures) (placed-key text tag b (room e))
+      c .before .before .write-stored2 .ensures
+          ∙ rw (w .write-stored .ensures, m .measure .ensures) (placed-key text tag b (room e))
           ∙ sym (p .1),
     )
 
@@ -111,7 +111,7 @@ two-strings-to-one-spec =
     measure-requires
     add-n
     returns-2
-    write-at-requires
-    write-at-requires-2
+    write-stored-requires
+    write-stored-requires-2
     same-length
     returns-3)

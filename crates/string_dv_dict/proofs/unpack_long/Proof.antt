@@ -7,10 +7,10 @@ use borrow.Author.Needs.{needs}
 use Rattle.layout.specs.Sizes.{nameLimit}
 use Rattle.parts.specs.Parts.{bytesOf}
 use Rattle.string_dv_dict.specs.Packed.{textIn, tagIn}
-use Rattle.string_dv_dict.proofs.Laws.{legal, unpack-pack}
-use Rattle.string_dv_dict.proofs.Writes.{two}
+use Rattle.string_dv_dict.proofs.Laws.{legal-tagged, unpack-pack}
+use Rattle.string_dv_dict.proofs.Writes.{two-parts}
 use Rattle.string_dv_dict.proofs.Answers.{unpack-no-room, unpack-done, lengths}
-use Rattle.string_dv_dict.proofs.Located.{long-text, long-tag}
+use Rattle.string_dv_dict.proofs.PackedParts.{long-text, long-tag}
 use Rattle.string_dv_dict.proofs.unpack_long.Statement.{statement}
 use Rattle.string_dv_dict.proofs.unpack_long.Tie as tie
 
@@ -39,7 +39,7 @@ add-if1 c =
     let z = c .before .before .before in
     let h = z .pre .2 in
     let form = z .args .form .now in
-    omega (arith, ap length (long-text h), h .tagLength, legal (textIn form) (tagIn form) (unpack-pack form (z .pre .1) .0) .size)
+    omega (arith, ap length (long-text h), h .tagLength, legal-tagged (textIn form) (tagIn form) (unpack-pack form (z .pre .1) .0) .size)
 
 returns : tie.Need-returns
 returns c =
@@ -48,9 +48,9 @@ returns c =
     let p = unpack-no-room (z .args .form .now) (z .args .buffer .now) (z .pre .0) (z .pre .1) (omega (arith, c .if1 .taken, ap length (long-text h), h .tagLength)) in
     (sym (p .0), sym (p .1))
 
-write-at-requires : tie.Need-write-at-requires
+write-stored-requires : tie.Need-write-stored-requires
 unfolding bytesOf
-write-at-requires c κs = omega (arith, c .before .if1 .left)
+write-stored-requires c κs = omega (arith, c .before .if1 .left)
 
 add-write-unescaped : tie.Need-add-write-unescaped
 add-write-unescaped c = search needs
@@ -69,7 +69,7 @@ write-unescaped-requires c κs =
     let w = c .before .before .before .before in
     let e = w .before .before in
     let h = e .before .before .before .before .pre .2 in
-    omega (arith, room e, w .write-at .kept .1 .1 .0, ap length (long-text h), ap length (long-tag h))
+    omega (arith, room e, w .write-stored .kept .1 .1 .0, ap length (long-text h), ap length (long-tag h))
 
 same-length : tie.Need-same-length
 same-length c = search needs
@@ -86,7 +86,7 @@ returns-2 c =
     let p = unpack-done form b (z .pre .0) (z .pre .1) (room e) in (
       lengths (ap length (long-text h)) (sym (h .tagLength)) (p .0),
       c .before .before .write-unescaped .ensures
-          ∙ rw (w .write-at .ensures, long-text h, long-tag h) (two (textIn form) (tagIn form) b (room e))
+          ∙ rw (w .write-stored .ensures, long-text h, long-tag h) (two-parts (textIn form) (tagIn form) b (room e))
           ∙ sym (p .1),
     )
 
@@ -100,7 +100,7 @@ unpack-long-spec =
     part-text-end
     add-if1
     returns
-    write-at-requires
+    write-stored-requires
     add-write-unescaped
     sub-write-unescaped
     part-write-unescaped-start

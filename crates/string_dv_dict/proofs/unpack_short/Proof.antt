@@ -6,9 +6,9 @@ use lib.ListN.{length}
 use borrow.Author.Needs.{needs}
 use Rattle.parts.specs.Parts.{bytesOf}
 use Rattle.string_dv_dict.specs.Packed.{textIn, tagIn}
-use Rattle.string_dv_dict.proofs.Writes.{two}
+use Rattle.string_dv_dict.proofs.Writes.{two-parts}
 use Rattle.string_dv_dict.proofs.Answers.{unpack-no-room, unpack-done, lengths}
-use Rattle.string_dv_dict.proofs.Located.{short-text, short-tag, short-length}
+use Rattle.string_dv_dict.proofs.PackedParts.{short-text, short-tag, short-length}
 use Rattle.string_dv_dict.proofs.unpack_short.Statement.{statement}
 use Rattle.string_dv_dict.proofs.unpack_short.Tie as tie
 
@@ -41,29 +41,29 @@ returns c =
     let p = unpack-no-room (z .args .form .now) (z .args .buffer .now) (z .pre .0) (z .pre .1) (omega (arith, c .if1 .taken, ap length (short-text h), short-length h)) in
     (sym (p .0), sym (p .1))
 
-write-at-requires : tie.Need-write-at-requires
+write-stored-requires : tie.Need-write-stored-requires
 unfolding bytesOf
-write-at-requires c κs = omega (arith, c .before .if1 .left)
+write-stored-requires c κs = omega (arith, c .before .if1 .left)
 
-add-write-at : tie.Need-add-write-at
-add-write-at c = search needs
+add-write-stored : tie.Need-add-write-stored
+add-write-stored c = search needs
 
-sub-write-at : tie.Need-sub-write-at
-sub-write-at c = search needs
+sub-write-stored : tie.Need-sub-write-stored
+sub-write-stored c = search needs
 
-part-write-at-start : tie.Need-part-write-at-start
-part-write-at-start c = search needs
+part-write-stored-start : tie.Need-part-write-stored-start
+part-write-stored-start c = search needs
 
-part-write-at-end : tie.Need-part-write-at-end
-part-write-at-end c = search needs
+part-write-stored-end : tie.Need-part-write-stored-end
+part-write-stored-end c = search needs
 
-write-at-requires-2 : tie.Need-write-at-requires-2
+write-stored-requires-2 : tie.Need-write-stored-requires-2
 unfolding bytesOf
-write-at-requires-2 c κs =
+write-stored-requires-2 c κs =
     let w = c .before .before .before .before in
     let e = w .before .before in
     let h = e .before .before .before .before .pre .2 in
-    omega (arith, room e, w .write-at .kept .1 .1 .0, ap length (short-text h), ap length (short-tag h))
+    omega (arith, room e, w .write-stored .kept .1 .1 .0, ap length (short-text h), ap length (short-tag h))
 
 same-length : tie.Need-same-length
 same-length c = search needs
@@ -79,8 +79,8 @@ returns-2 c =
     let h = z .pre .2 in
     let p = unpack-done form b (z .pre .0) (z .pre .1) (room e) in (
       lengths (ap length (short-text h)) (short-length h) (p .0),
-      c .before .before .write-at2 .ensures
-          ∙ rw (w .write-at .ensures, short-text h, short-tag h) (two (textIn form) (tagIn form) b (room e))
+      c .before .before .write-stored2 .ensures
+          ∙ rw (w .write-stored .ensures, short-text h, short-tag h) (two-parts (textIn form) (tagIn form) b (room e))
           ∙ sym (p .1),
     )
 
@@ -94,11 +94,11 @@ unpack-short-spec =
     part-text-end
     add-if1
     returns
-    write-at-requires
-    add-write-at
-    sub-write-at
-    part-write-at-start
-    part-write-at-end
-    write-at-requires-2
+    write-stored-requires
+    add-write-stored
+    sub-write-stored
+    part-write-stored-start
+    part-write-stored-end
+    write-stored-requires-2
     same-length
     returns-2)

@@ -11,7 +11,7 @@ use borrow.Author.Tests.{eq-eqb, ne-eqb}
 use Rattle.slices.specs.Bytes.{Bytes}
 use Rattle.utf8.specs.declared.Step.{Step}
 use Rattle.utf8.specs.declared.Step.the-variants.{Due, Bad}
-use Rattle.utf8.specs.Text.{between, after, textFrom}
+use Rattle.utf8.specs.Text.{charStart, after, textFrom}
 use Rattle.utf8.proofs.Step.{the-type}
 use Rattle.utf8.proofs.Bounds.{bad-stays, text-more, text-end, none-due}
 use Rattle.utf8.proofs.char_end.Statement.{statement}
@@ -27,7 +27,7 @@ refused x y i s h e t = sym (text-more x Bad i s h (sym (bad-only y t) ∙ e)) �
 
 abbrev Inv-loop : tie.InvT-loop
 Inv-loop s i left₀ lo₀ hi₀ k₀ left lo hi k =
-    (i < k) × (k ≤ length s) × (textFrom (Due left lo hi) (drop k s) ≡ textFrom between (drop i s))
+    (i < k) × (k ≤ length s) × (textFrom (Due left lo hi) (drop k s) ≡ textFrom charStart (drop i s))
 
 abbrev μ-loop : tie.MeasureT-loop
 μ-loop s i left₀ lo₀ hi₀ k₀ left lo hi k = length s - k
@@ -48,7 +48,7 @@ returns : tie.Need-returns Inv-loop μ-loop
 returns c =
     let a = c .before .before in
     let z = a .before .before .before .args in
-    refused between (a .first .result) (z .i) (z .s .now) (omega arith) (a .first .ensures) (c .before .match .keys2)
+    refused charStart (a .first .result) (z .i) (z .s .now) (omega arith) (a .first .ensures) (c .before .match .keys2)
 
 add-k : tie.Need-add-k Inv-loop μ-loop
 add-k c = omega arith
@@ -57,7 +57,7 @@ loop-holds : tie.Need-loop-holds Inv-loop μ-loop
 loop-holds c =
     let a = c .before .before .before in
     let z = a .before .before .before .args in
-    (omega arith, omega arith, text-more between _ (z .i) (z .s .now) (omega arith) (sym (c .before .left .given .1) ∙ a .first .ensures))
+    (omega arith, omega arith, text-more charStart _ (z .i) (z .s .now) (omega arith) (sym (c .before .left .given .1) ∙ a .first .ensures))
 
 returns-2 : tie.Need-returns-2 Inv-loop μ-loop
 returns-2 c =

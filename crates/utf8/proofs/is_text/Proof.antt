@@ -11,20 +11,20 @@ use borrow.Author.Needs.{needs}
 use Rattle.slices.specs.Bytes.{Bytes}
 use Rattle.utf8.specs.declared.End.{End}
 use Rattle.utf8.specs.declared.End.the-variants.{At, Bad}
-use Rattle.utf8.specs.Text.{between, textFrom, isText}
-use Rattle.utf8.specs.Plain.{Passed, Ends}
+use Rattle.utf8.specs.Text.{charStart, textFrom, isText}
+use Rattle.utf8.specs.Passing.{Passed, Ends}
 use Rattle.utf8.proofs.End.{the-type}
 use Rattle.utf8.proofs.Bounds.{text-end}
-use Rattle.utf8.proofs.Plain.{pass-on}
+use Rattle.utf8.proofs.Ascii.{pass-on}
 use Rattle.utf8.proofs.is_text.Statement.{statement}
 use Rattle.utf8.proofs.is_text.Tie as tie
 
-no-end : (s : Bytes) (i : ℕ) (r : End) → Ends s i r → tagOf the-type r ≡ 1 → textFrom between (drop i s) ≡ false
+no-end : (s : Bytes) (i : ℕ) (r : End) → Ends s i r → tagOf the-type r ≡ 1 → textFrom charStart (drop i s) ≡ false
 no-end s i (At k) e t = absurd (omega arith)
 no-end s i Bad e t = e
 
 abbrev Inv-loop : tie.InvT-loop
-Inv-loop s i₀ i = (i ≤ length s) × (textFrom between (drop i s) ≡ isText s)
+Inv-loop s i₀ i = (i ≤ length s) × (textFrom charStart (drop i s) ≡ isText s)
 
 abbrev μ-loop : tie.MeasureT-loop
 μ-loop s i₀ i = length s - i
@@ -47,12 +47,12 @@ empty (b ∷ s) e = absurd (omega arith)
 returns : tie.Need-returns Inv-loop μ-loop
 returns c = empty _ (omega arith)
 
-pass-plain-requires : tie.Need-pass-plain-requires Inv-loop μ-loop
-pass-plain-requires c κs = omega arith
+pass-ascii-requires : tie.Need-pass-ascii-requires Inv-loop μ-loop
+pass-ascii-requires c κs = omega arith
 
 loop-holds : tie.Need-loop-holds Inv-loop μ-loop
 unfolding isText
-loop-holds c = (c .pass-plain .ensures .1, c .pass-plain .ensures .2)
+loop-holds c = (c .pass-ascii .ensures .1, c .pass-ascii .ensures .2)
 
 pass-twos-requires : tie.Need-pass-twos-requires Inv-loop μ-loop
 pass-twos-requires c κs = omega arith
@@ -60,16 +60,16 @@ pass-twos-requires c κs = omega arith
 pass-threes-requires : tie.Need-pass-threes-requires Inv-loop μ-loop
 pass-threes-requires c κs = c .pass-twos .ensures .1
 
-pass-plain-requires-2 : tie.Need-pass-plain-requires-2 Inv-loop μ-loop
-pass-plain-requires-2 c κs = c .before .pass-threes .ensures .1
+pass-ascii-requires-2 : tie.Need-pass-ascii-requires-2 Inv-loop μ-loop
+pass-ascii-requires-2 c κs = c .before .pass-threes .ensures .1
 
 loop-less : tie.Need-loop-less Inv-loop μ-loop
-loop-less c = omega (arith, c .before .if2 .taken, c .pass-plain2 .ensures)
+loop-less c = omega (arith, c .before .if2 .taken, c .pass-ascii2 .ensures)
 
 loop-again : tie.Need-loop-again Inv-loop μ-loop
 loop-again c =
     let a = c .before .before in
-    let p = pass-on _ _ _ _ (ran a) (c .pass-plain2 .ensures) in
+    let p = pass-on _ _ _ _ (ran a) (c .pass-ascii2 .ensures) in
     (p .1, p .2 ∙ a .before .before .before .loop .inv .1)
 
 char-end-requires : tie.Need-char-end-requires Inv-loop μ-loop
@@ -86,21 +86,21 @@ returns-2 c =
     let a = c .before .before in
     sym (no-end _ _ (a .char-end .result) (a .char-end .ensures) (c .before .match .keys2)) ∙ a .before .before .before .before .before .loop .inv .1
 
-pass-plain-requires-3 : tie.Need-pass-plain-requires-3 Inv-loop μ-loop
-pass-plain-requires-3 c κs = ends c .1
+pass-ascii-requires-3 : tie.Need-pass-ascii-requires-3 Inv-loop μ-loop
+pass-ascii-requires-3 c κs = ends c .1
 
 loop-less-2 : tie.Need-loop-less-2 Inv-loop μ-loop
-loop-less-2 c = omega (arith, ends (c .before), c .pass-plain3 .ensures)
+loop-less-2 c = omega (arith, ends (c .before), c .pass-ascii3 .ensures)
 
 loop-again-2 : tie.Need-loop-again-2 Inv-loop μ-loop
 loop-again-2 c =
-    let p = c .pass-plain3 .ensures in
+    let p = c .pass-ascii3 .ensures in
     (p .1, p .2 ∙ ends (c .before) .2 ∙ c .before .before .before .before .before .before .before .before .before .loop .inv .1)
 
 returns-3 : tie.Need-returns-3 Inv-loop μ-loop
 returns-3 c =
     let a = c .before .loop in
-    sym (text-end between (a .i) _ (omega arith)) ∙ a .inv .1
+    sym (text-end charStart (a .i) _ (omega arith)) ∙ a .inv .1
 
 pub is-text-spec : {M : Type 1} → statement M
 is-text-spec =
@@ -109,18 +109,18 @@ is-text-spec =
     Inv-loop
     μ-loop
     returns
-    pass-plain-requires
+    pass-ascii-requires
     loop-holds
     pass-twos-requires
     pass-threes-requires
-    pass-plain-requires-2
+    pass-ascii-requires-2
     loop-less
     loop-again
     char-end-requires
     enum-known-k
     enum-told
     returns-2
-    pass-plain-requires-3
+    pass-ascii-requires-3
     loop-less-2
     loop-again-2
     returns-3)

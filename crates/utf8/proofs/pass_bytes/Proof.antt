@@ -4,8 +4,8 @@ use Prim.Native.Nat.{_-_}
 use mathlib.Core.Path.{refl}
 use native.Mathlib.Omega.{arith}
 use lib.ListN.{length}
-use Rattle.utf8.specs.Plain.{Passed}
-use Rattle.utf8.proofs.Plain.{pass-on, pass-one}
+use Rattle.utf8.specs.Passing.{Passed}
+use Rattle.utf8.proofs.Ascii.{pass-on, pass-one}
 use Rattle.utf8.proofs.pass_bytes.Statement.{statement}
 use Rattle.utf8.proofs.pass_bytes.Tie as tie
 

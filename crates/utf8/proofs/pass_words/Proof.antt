@@ -5,8 +5,8 @@ use mathlib.Core.Path.{_≡_, refl, sym, _∙_}
 use native.Mathlib.Omega.{arith}
 use lib.ListN.{length}
 use borrow.Author.Tests.{not-false}
-use Rattle.utf8.specs.Plain.{Passed}
-use Rattle.utf8.proofs.Plain.{pass-on, pass-run}
+use Rattle.utf8.specs.Passing.{Passed}
+use Rattle.utf8.proofs.Ascii.{pass-on, pass-run}
 use Rattle.utf8.proofs.pass_words.Statement.{statement}
 use Rattle.utf8.proofs.pass_words.Tie as tie
 
@@ -22,8 +22,8 @@ loop-holds c = (omega arith, omega arith, refl)
 sub-loop : tie.Need-sub-loop Inv-loop μ-loop
 sub-loop c = omega arith
 
-is-plain-requires : tie.Need-is-plain-requires Inv-loop μ-loop
-is-plain-requires c κs = omega arith
+is-ascii-requires : tie.Need-is-ascii-requires Inv-loop μ-loop
+is-ascii-requires c κs = omega arith
 
 returns : tie.Need-returns Inv-loop μ-loop
 returns c = c .before .before .before .loop .inv
@@ -37,20 +37,20 @@ loop-less c = omega arith
 loop-again : tie.Need-loop-again Inv-loop μ-loop
 loop-again c =
     let a = c .before .before .before in
-    pass-on _ _ _ _ (a .loop .inv) (pass-run 8 (a .before .before .args .s .now) (a .loop .k) (a .loop .k) (omega arith) (sym (c .before .is-plain .ensures) ∙ not-false _ (c .if1 .left)) (omega arith) (omega arith))
+    pass-on _ _ _ _ (a .loop .inv) (pass-run 8 (a .before .before .args .s .now) (a .loop .k) (a .loop .k) (omega arith) (sym (c .before .is-ascii .ensures) ∙ not-false _ (c .if1 .left)) (omega arith) (omega arith))
 
 returns-2 : tie.Need-returns-2 Inv-loop μ-loop
 returns-2 c = c .before .before .loop .inv
 
-is-plain-requires-2 : tie.Need-is-plain-requires-2 Inv-loop μ-loop
-is-plain-requires-2 c κs = omega arith
+is-ascii-requires-2 : tie.Need-is-ascii-requires-2 Inv-loop μ-loop
+is-ascii-requires-2 c κs = omega arith
 
 returns-3 : tie.Need-returns-3 Inv-loop μ-loop
 returns-3 c =
     let a = c .before .before .before .before in
     let s = a .before .before .args .s .now in
     let p : length s - 8 + 8 ≡ length s = omega arith in
-    pass-on _ _ _ _ (a .loop .inv) (rw p at (pass-run 8 s (length s - 8) (a .loop .k) (omega arith) (sym (c .before .is-plain2 .ensures) ∙ c .if3 .taken) (omega arith) (omega arith)))
+    pass-on _ _ _ _ (a .loop .inv) (rw p at (pass-run 8 s (length s - 8) (a .loop .k) (omega arith) (sym (c .before .is-ascii2 .ensures) ∙ c .if3 .taken) (omega arith) (omega arith)))
 
 returns-4 : tie.Need-returns-4 Inv-loop μ-loop
 returns-4 c = c .before .before .before .before .loop .inv
@@ -63,12 +63,12 @@ pass-words-spec =
     μ-loop
     loop-holds
     sub-loop
-    is-plain-requires
+    is-ascii-requires
     returns
     add-k
     loop-less
     loop-again
     returns-2
-    is-plain-requires-2
+    is-ascii-requires-2
     returns-3
     returns-4)

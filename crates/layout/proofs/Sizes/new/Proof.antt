@@ -5,7 +5,7 @@ use borrow.Author.Needs.{needs}
 use borrow.Author.Tests.{not-true, not-false}
 use Rattle.layout.specs.declared.Sizes.{Sizes}
 use Rattle.layout.specs.declared.Made.the-variants.{Fit, BadSize}
-use Rattle.layout.specs.Sizes.{between, inRange, made}
+use Rattle.layout.specs.Sizes.{within, inRange, made}
 use Rattle.layout.proofs.Sizes.new.Statement.{statement}
 use Rattle.layout.proofs.Sizes.new.Tie as tie
 
@@ -25,81 +25,81 @@ bad : (s : Sizes) → inRange s ≡ false → BadSize ≡ made s
 unfolding made
 bad s h = rw h
 
-bad-p : (s : Sizes) → between 13 20 (s .p) ≡ false → BadSize ≡ made s
+bad-p : (s : Sizes) → within 13 20 (s .p) ≡ false → BadSize ≡ made s
 unfolding inRange
 bad-p s h = bad s (rw h)
 
-bad-n : (s : Sizes) → between 1 1024 (s .n) ≡ false → BadSize ≡ made s
+bad-n : (s : Sizes) → within 1 1024 (s .n) ≡ false → BadSize ≡ made s
 unfolding inRange
-bad-n s h = bad s (later (between 13 20 (s .p)) _ (rw h))
+bad-n s h = bad s (later (within 13 20 (s .p)) _ (rw h))
 
-bad-e : (s : Sizes) → between 1 1048576 (s .e) ≡ false → BadSize ≡ made s
+bad-e : (s : Sizes) → within 1 1048576 (s .e) ≡ false → BadSize ≡ made s
 unfolding inRange
-bad-e s h = bad s (later (between 13 20 (s .p)) _ (later (between 1 1024 (s .n)) _ (rw h)))
+bad-e s h = bad s (later (within 13 20 (s .p)) _ (later (within 1 1024 (s .n)) _ (rw h)))
 
-bad-w : (s : Sizes) → between 4 24 (s .w) ≡ false → BadSize ≡ made s
+bad-w : (s : Sizes) → within 4 24 (s .w) ≡ false → BadSize ≡ made s
 unfolding inRange
-bad-w s h = bad s (later (between 13 20 (s .p)) _ (later (between 1 1024 (s .n)) _ (later (between 1 1048576 (s .e)) _ (rw h))))
+bad-w s h = bad s (later (within 13 20 (s .p)) _ (later (within 1 1024 (s .n)) _ (later (within 1 1048576 (s .e)) _ (rw h))))
 
-bad-b : (s : Sizes) → between 1 4096 (s .b) ≡ false → BadSize ≡ made s
+bad-b : (s : Sizes) → within 1 4096 (s .b) ≡ false → BadSize ≡ made s
 unfolding inRange
-bad-b s h = bad s (later (between 13 20 (s .p)) _ (later (between 1 1024 (s .n)) _ (later (between 1 1048576 (s .e)) _ (later (between 4 24 (s .w)) _ h))))
+bad-b s h = bad s (later (within 13 20 (s .p)) _ (later (within 1 1024 (s .n)) _ (later (within 1 1048576 (s .e)) _ (later (within 4 24 (s .w)) _ h))))
 
-fit : (s : Sizes) → between 13 20 (s .p) ≡ true → between 1 1024 (s .n) ≡ true → between 1 1048576 (s .e) ≡ true → between 4 24 (s .w) ≡ true → between 1 4096 (s .b) ≡ true → Fit s ≡ made s
+fit : (s : Sizes) → within 13 20 (s .p) ≡ true → within 1 1024 (s .n) ≡ true → within 1 1048576 (s .e) ≡ true → within 4 24 (s .w) ≡ true → within 1 4096 (s .b) ≡ true → Fit s ≡ made s
 unfolding inRange made
 fit s p n e w b = rw (p, n, e, w, b)
 
-within-requires : tie.Need-within-requires
-within-requires c κs = search needs
+is-within-requires : tie.Need-is-within-requires
+is-within-requires c κs = search needs
 
 returns : tie.Need-returns
-returns c = bad-p _ (outside (c .if1 .taken) (c .before .within .ensures))
+returns c = bad-p _ (outside (c .if1 .taken) (c .before .is-within .ensures))
 
-within-requires-2 : tie.Need-within-requires-2
-within-requires-2 c κs = search needs
+is-within-requires-2 : tie.Need-is-within-requires-2
+is-within-requires-2 c κs = search needs
 
 returns-2 : tie.Need-returns-2
-returns-2 c = bad-n _ (outside (c .if2 .taken) (c .before .within2 .ensures))
+returns-2 c = bad-n _ (outside (c .if2 .taken) (c .before .is-within2 .ensures))
 
-within-requires-3 : tie.Need-within-requires-3
-within-requires-3 c κs = search needs
+is-within-requires-3 : tie.Need-is-within-requires-3
+is-within-requires-3 c κs = search needs
 
 returns-3 : tie.Need-returns-3
-returns-3 c = bad-e _ (outside (c .if3 .taken) (c .before .within3 .ensures))
+returns-3 c = bad-e _ (outside (c .if3 .taken) (c .before .is-within3 .ensures))
 
-within-requires-4 : tie.Need-within-requires-4
-within-requires-4 c κs = search needs
+is-within-requires-4 : tie.Need-is-within-requires-4
+is-within-requires-4 c κs = search needs
 
 returns-4 : tie.Need-returns-4
-returns-4 c = bad-w _ (outside (c .if4 .taken) (c .before .within4 .ensures))
+returns-4 c = bad-w _ (outside (c .if4 .taken) (c .before .is-within4 .ensures))
 
-within-requires-5 : tie.Need-within-requires-5
-within-requires-5 c κs = search needs
+is-within-requires-5 : tie.Need-is-within-requires-5
+is-within-requires-5 c κs = search needs
 
 returns-5 : tie.Need-returns-5
-returns-5 c = bad-b _ (outside (c .if5 .taken) (c .before .within5 .ensures))
+returns-5 c = bad-b _ (outside (c .if5 .taken) (c .before .is-within5 .ensures))
 
 returns-6 : tie.Need-returns-6
 returns-6 c =
     fit _
-    (inside (c .before .before .before .before .before .before .before .before .if1 .left) (c .before .before .before .before .before .before .before .before .before .within .ensures))
-    (inside (c .before .before .before .before .before .before .if2 .left) (c .before .before .before .before .before .before .before .within2 .ensures))
-    (inside (c .before .before .before .before .if3 .left) (c .before .before .before .before .before .within3 .ensures))
-    (inside (c .before .before .if4 .left) (c .before .before .before .within4 .ensures))
-    (inside (c .if5 .left) (c .before .within5 .ensures))
+    (inside (c .before .before .before .before .before .before .before .before .if1 .left) (c .before .before .before .before .before .before .before .before .before .is-within .ensures))
+    (inside (c .before .before .before .before .before .before .if2 .left) (c .before .before .before .before .before .before .before .is-within2 .ensures))
+    (inside (c .before .before .before .before .if3 .left) (c .before .before .before .before .before .is-within3 .ensures))
+    (inside (c .before .before .if4 .left) (c .before .before .before .is-within4 .ensures))
+    (inside (c .if5 .left) (c .before .is-within5 .ensures))
 
 pub new-spec : {M : Type 1} → statement M
 new-spec =
     tie.close
     (tie.spec
-    within-requires
+    is-within-requires
     returns
-    within-requires-2
+    is-within-requires-2
     returns-2
-    within-requires-3
+    is-within-requires-3
     returns-3
-    within-requires-4
+    is-within-requires-4
     returns-4
-    within-requires-5
+    is-within-requires-5
     returns-5
     returns-6)
