@@ -3,12 +3,14 @@ use mathlib.Core.Path.{_≡_, refl}
 use mathlib.Core.Logic.{inl}
 use mathlib.Core.List.{List, [], _∷_}
 use Rattle.slices.specs.Bytes.{Bytes}
+use Rattle.refusals.specs.declared.Refusal.the-variants.{Unopened}
 use Rattle.layout.specs.declared.Sizes.{Sizes}
 use Rattle.model.specs.Answers.{OpenAnswer}
 use Rattle.model.specs.State.{State, opened}
 use Rattle.model.specs.Calls.{Event, add, find, read, count, Before, nothing, beforeOf, Demand3}
-use Rattle.model.specs.Runs.{Step, Runs}
+use Rattle.model.specs.Runs.{RefusedFor, Step, Runs}
 use Rattle.model.specs.Order.{ordered, freshNames}
+use Rattle.model.proofs.Never.{never-unopened}
 use Rattle.model.proofs.Lists.{lists-from, demand-3 as opened-demand, stands-for as opened-stands-for}
 use Rattle.memory.specs.Stands.{Stands}
 use Rattle.memory.specs.Promises.{OpenPost}
@@ -41,6 +43,12 @@ after-list s o es z longer =
       read-name = λ n x y r a z′ c. longer (read n x r y) z′ c .read-name es n x y r a (inl (refl, refl));
       read-none = λ n x y r z′ c. longer (read n x r y) z′ c .read-none es n x y r (inl (refl, refl));
     }
+
+-- ---- refusal 3
+
+-- On memory that stands for a state no call is refused as unopened.
+pub never-3 : (s : Sizes) (st : State) (m z : Memory) (e : Event) → Stands s st (m .pages) (m .lists) → Brings s m e z → ¬ RefusedFor Unopened e
+never-3 s st m z e S b = never-unopened s st e (step s (b .0) z e (b .2) st (stands-same s st m (b .0) (b .1) S) .0)
 
 -- ---- from any memory that stands for a state
 
@@ -77,3 +85,10 @@ module _ (s : Sizes) (pages lists pages₁ lists₁ : Bytes) (O : OpenPost s pag
   brought-stands-for =
       let k = opened-stands-for Memory s (Holds s) begin z es (runs s begin z es b) (fresh .good .sizes) fresh in
       (k .0, k .1, k .3)
+
+-- Document 01: refusal 3 is never given "on a whole book as these calls left it", in such a list or after it.
+pub brought-never-3 : (s : Sizes) (pages lists pages₁ lists₁ : Bytes) → OpenPost s pages lists OpenAnswer.done pages₁ lists₁
+    → (es : List Event) (y z : Memory) (e : Event) → Brought s (record { pages = pages₁; lists = lists₁ }) es y → Brings s y e z → ¬ RefusedFor Unopened e
+brought-never-3 s pages lists pages₁ lists₁ O es y z e b c =
+    let k = brought-stands-for s pages lists pages₁ lists₁ O es y b in
+    never-3 s (k .0) y z e (k .1) c

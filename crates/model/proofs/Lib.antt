@@ -13,3 +13,4 @@ pub mod Unique
 pub mod Adds
 pub mod Order
 pub mod Lists
+pub mod Never

@@ -1,7 +1,9 @@
 -- Lists of calls over any memory: what the theorem needs of each call. Assumes nothing.
 use mathlib.Core.Path.{_≡_}
 use mathlib.Core.List.{List, [], _∷_}
+use Rattle.refusals.specs.declared.Refusal.{Refusal}
 use Rattle.layout.specs.declared.Sizes.{Sizes}
+use Rattle.model.specs.Answers.{AddAnswer, FindAnswer, ReadAnswer, CountAnswer}
 use Rattle.model.specs.State.{State}
 use Rattle.model.specs.Steps.{addAnswer, afterAdd, findAnswer, readAnswer, readBuffer, countAnswer}
 use Rattle.model.specs.Calls.{Event, add, find, read, count}
@@ -12,6 +14,13 @@ RightAnswer s st (add a r) = r ≡ addAnswer s st a
 RightAnswer s st (find a r) = r ≡ findAnswer s st a
 RightAnswer s st (read n x r y) = (r ≡ readAnswer s st n x) × (y ≡ readBuffer s st n x)
 RightAnswer s st (count k r) = r ≡ countAnswer st k
+
+-- A call was refused for this reason.
+abbrev pub RefusedFor : Refusal → Event → Type 0
+RefusedFor why (add a r) = r ≡ AddAnswer.refused why
+RefusedFor why (find a r) = r ≡ FindAnswer.refused why
+RefusedFor why (read n x r y) = r ≡ ReadAnswer.refused why
+RefusedFor why (count k r) = r ≡ CountAnswer.refused why
 
 -- The state after a call.
 abbrev pub afterCall : Sizes → State → Event → State
