@@ -1,4 +1,4 @@
--- What the words of the pages say: opening, the frame, and whose a page is. Assumes nothing.
+-- What the words of the pages say: after opening, in memory that agrees, and who owns a page. Assumes nothing.
 use Prim.Native.Nat.{ℕ, zero, suc, _+_, _-_, _≤_, _<_}
 use mathlib.Core.Path.{_≡_, refl, sym, _∙_, ap, subst}
 use mathlib.Core.Logic.{_≢_}

@@ -1,4 +1,4 @@
--- The space that the dictionaries share, as document 01's section Pages has it. Assumes nothing.
+-- The space that the dictionaries share, by document 01's section Pages. Assumes nothing.
 use Prim.Native.Nat.{ℕ, zero, suc, _+_, _^_}
 use mathlib.Core.Bool.{Bool, _&&_, cond}
 use lib.Dec.{eqb, leb, ltb}
@@ -14,7 +14,7 @@ pub record Space : Type 0 where
 abbrev pub noSpace : ℕ → Space
 noSpace d = record { taken = zero; used = zero }
 
--- Does an entry of n bytes fit the last page, one of 2^p bytes? Without a page none fits, and exactly full is allowed.
+-- Whether an entry of n bytes fits the last page, which has 2^p bytes. Without a page none fits; exactly full is allowed.
 unfoldable pub fits : ℕ → Space → ℕ → Bool
 fits p x n = ltb zero (x .taken) && leb (x .used + n) (2 ^ p)
 
@@ -30,6 +30,6 @@ abbrev pub sum : (ℕ → ℕ) → ℕ → ℕ
 sum f zero = zero
 sum f (suc n) = sum f n + f n
 
--- The pages that the dictionaries have taken together.
+-- How many pages all dictionaries together have taken.
 unfoldable pub allPages : (ℕ → Space) → ℕ
 allPages sp = sum (λ d. sp d .taken) dictionaries

@@ -1,4 +1,4 @@
--- Where an entry goes, by the words of `lists`; and the words after it. Assumes nothing.
+-- Where an entry goes, by the words of `lists`; and the words after the entry was written. Assumes nothing.
 use Prim.Native.Nat.{ℕ, _+_, _-_, _%_, _<_, _≤_}
 use mathlib.Core.Path.{_≡_}
 use mathlib.Core.Bool.{cond}
@@ -13,7 +13,7 @@ use Rattle.bytes_buffer.specs.declared.Spot.the-variants.{Current, Next,
 use Rattle.bytes_buffer.specs.declared.Lowest.{Lowest}
 use Rattle.bytes_buffer.specs.declared.Lowest.the-variants as L
 
--- The lowest untaken page; n where none is left.
+-- The lowest untaken page; n if none is left.
 unfoldable pub lowestOf : Sizes → ℕ → Lowest
 lowestOf s w = cond (leb w (s .n)) (L.Page w) L.Bad
 
@@ -29,7 +29,7 @@ spotOf s current page untaken n =
     (cond (ltb (pageSize s) (usedOf page)) Bad
     (cond (leb (usedOf page + n) (pageSize s)) (Current (current - 1) (usedOf page)) (nextOf s untaken))))
 
--- Dictionary d's current page, where it has one.
+-- Dictionary d's current page, if it has one.
 abbrev pub currentOf : (ℕ → ℕ) → ℕ → ℕ
 currentOf W d = W (currentAt d) - 1
 
@@ -37,7 +37,7 @@ currentOf W d = W (currentAt d) - 1
 unfoldable pub spotIn : Sizes → (ℕ → ℕ) → ℕ → ℕ → ℕ → Spot
 spotIn s W d untaken n = spotOf s (W (currentAt d)) (W (pageAt (currentOf W d))) untaken n
 
--- What every memory's spots have.
+-- What holds of a spot, whatever the memory holds.
 abbrev pub InPages : Sizes → ℕ → ℕ → Spot → Type 0
 InPages s untaken n (Current page offset) = (page < s .n) × (offset + n ≤ pageSize s)
 InPages s untaken n (Next page) = (page ≡ untaken) × (page < s .n)
@@ -57,15 +57,15 @@ untakenAfter untaken Bad = untaken
 abbrev pub withUsed : ℕ → ℕ → ℕ
 withUsed w used = pageWord (ownerOf w) used (positionOf w)
 
--- The page is used up to here.
+-- `lists` after the page was marked as used up to `used`.
 unfoldable pub extendedPage : Bytes → ℕ → ℕ → Bytes
 extendedPage lists page used = setWord lists (pageAt page) (withUsed (wordAt lists (pageAt page)) used)
 
--- How many pages dictionary d has. There are 1,024 at the most, and where one is left it has fewer.
+-- How many pages dictionary d has. There are at most 1,024 pages; while one is left, it has fewer.
 abbrev pub pagesOf : Bytes → ℕ → ℕ
 pagesOf lists d = wordAt lists (takenAt d) % 1024
 
--- The page becomes dictionary d's current one, used up to here.
+-- `lists` after the page became dictionary d's current one, used up to `used`.
 unfoldable pub tookPage : Bytes → ℕ → ℕ → ℕ → Bytes
 tookPage lists d page used =
     setWord

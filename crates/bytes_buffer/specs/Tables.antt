@@ -1,4 +1,4 @@
--- Which words hold which spaces: facts that a program could check, of the words W by their index. Assumes nothing.
+-- Which words hold which spaces, as facts that a program could check. W gives the words by their index. Assumes nothing.
 use Prim.Native.Nat.{ℕ, zero, suc, _<_, _≤_}
 use mathlib.Core.Path.{_≡_}
 use Rattle.layout.specs.declared.Sizes.{Sizes}
@@ -7,13 +7,13 @@ use Rattle.layout.specs.Fields.{untakenAt, currentAt, takenAt, pageAt, ownerOf,
 use Rattle.bytes_buffer.specs.Pages.{Space, allPages}
 use Rattle.bytes_buffer.specs.Spots.{currentOf}
 
--- A taken page's word: a dictionary owns the page, and no more of it is used than there is.
+-- A taken page's word: a dictionary owns the page, and its used bytes are at most the page's size.
 pub record Owned (s : Sizes) (w : ℕ) : Type 0 where
   pub least : 1 ≤ ownerOf w
   pub most : ownerOf w ≤ dictionaries
   pub inside : usedOf w ≤ pageSize s
 
--- Dictionary d, which has pages: the current one is the last of them.
+-- The current page of a dictionary d that has pages: it is the last of them.
 pub record CurrentPage (sp : ℕ → Space) (W : ℕ → ℕ) (d : ℕ) : Type 0 where
   pub some : 1 ≤ W (currentAt d)
   pub below : W (currentAt d) ≤ allPages sp
@@ -31,7 +31,7 @@ pub record PagesAt (s : Sizes) (sp : ℕ → Space) (W : ℕ → ℕ) : Type 0 w
   pub count : (d : ℕ) → d < dictionaries → W (takenAt d) ≡ sp d .taken
   pub without : (d : ℕ) → d < dictionaries → sp d .taken ≡ zero → (W (currentAt d) ≡ zero) × (sp d .used ≡ zero)
   pub current : (d : ℕ) → d < dictionaries → 0 < sp d .taken → CurrentPage sp W d
-  -- its pages have positions below their number, and no two have the same one
+  -- the positions of its pages are below their number, and no two are the same
   pub order : (d i : ℕ) → d < dictionaries → i < allPages sp → ownerOf (W (pageAt i)) ≡ suc d → positionOf (W (pageAt i)) < sp d .taken
   pub distinct : (d i j : ℕ) → d < dictionaries → i < allPages sp → j < allPages sp → ownerOf (W (pageAt i)) ≡ suc d → ownerOf (W (pageAt j)) ≡ suc d
       → positionOf (W (pageAt i)) ≡ positionOf (W (pageAt j))

@@ -17,7 +17,7 @@ use layout::Sizes;
 use layout::TAKEN;
 use layout::UNTAKEN;
 
-// Where an entry goes: behind what the current page has, or to the front of the lowest untaken page.
+// Where an entry goes: behind the used bytes of the current page, or to the front of the lowest untaken page.
 pub enum Spot {
     Current { page: usize, offset: usize },
     Next(usize),
@@ -31,7 +31,7 @@ pub enum Lowest {
     Bad,
 }
 
-// The lowest untaken page; n where none is left.
+// The lowest untaken page; n if none is left.
 pub fn untaken(lists: &[u8], s: Sizes) -> Lowest
     requires { ⌜ InRange s × (listBytes s ≤ length (now lists)) ⌝ }
     ensures { λ r. ⌜ r ≡ lowestOf s (wordAt (now (lists .entry)) untakenAt) ⌝ }
@@ -81,7 +81,7 @@ pub fn plan(lists: &[u8], s: Sizes, d: usize, untaken: usize, len: usize) -> Spo
     next(s, untaken)
 }
 
-// The lowest untaken page after an entry there: what the plan of a second entry starts from.
+// The lowest untaken page after an entry at the spot. The plan of a second entry starts from it.
 pub fn untaken_after(untaken: usize, spot: Spot) -> usize
     requires { ⌜ untaken + 1 < 2 ^ 64 ⌝ }
     ensures { λ r. ⌜ r ≡ untakenAfter untaken spot ⌝ }
@@ -94,7 +94,7 @@ pub fn untaken_after(untaken: usize, spot: Spot) -> usize
     }
 }
 
-// The page is used up to here; its owner and its position stay.
+// Marks the page as used up to `used`. Its owner and its position stay.
 pub fn extend(lists: &mut [u8], page: usize, used: usize)
     requires { ⌜ (8 * pageAt page + 8 ≤ length (now lists)) × (used < 2097152) ⌝ }
     ensures { λ _. ⌜ now (lists .exit) ≡ extendedPage (now (lists .entry)) page used ⌝ }
@@ -107,12 +107,12 @@ pub fn extend(lists: &mut [u8], page: usize, used: usize)
     );
 }
 
-// The page becomes the current one of dictionary d, used up to here; the lowest untaken page is the one after it.
+// Makes the page the current one of dictionary d, used up to `used`. The page after it becomes the lowest untaken one.
 pub fn take_page(lists: &mut [u8], d: usize, page: usize, used: usize)
     requires { ⌜ (8 * pageAt page + 8 ≤ length (now lists)) × (d < dictionaries) × (used < 2097152) ⌝ }
     ensures { λ _. ⌜ now (lists .exit) ≡ tookPage (now (lists .entry)) d page used ⌝ }
 {
-    // A dictionary has fewer than 1,024 pages where one is left, so the remainder is the number itself.
+    // While a page is left, a dictionary has fewer than 1,024 pages. So the remainder is the number itself.
     let taken = words::word_at(lists, TAKEN + STRIDE * d) % PAGE_NUMBERS;
     words::put_word(
         lists,

@@ -1,5 +1,5 @@
--- A store reads no byte of `pages` past what the sizes need, and none of `lists` behind the dictionaries' words: memory that agrees up to there, as after a
--- write of block words, stands for the same store. Assumes nothing.
+-- A store depends on no byte of `pages` beyond what the sizes need, and on no byte of `lists` behind the dictionaries' words. Memory that agrees up to
+-- there, as after a write of block words, stands for the same store. Assumes nothing.
 use Prim.Native.Nat.{ℕ, _+_, _*_, _≤_, _<_}
 use mathlib.Core.Path.{_≡_, sym, ap, subst, _∙_}
 use mathlib.Core.Logic.{inl, inr, ⊎-elim}

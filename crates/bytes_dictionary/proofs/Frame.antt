@@ -1,4 +1,4 @@
--- A dictionary's entries are held on where the memory agrees on what it reads. Assumes nothing.
+-- Memory that agrees on what a dictionary reads still holds its entries. Assumes nothing.
 use Prim.Native.Nat.{ℕ, _+_, _*_, _<_}
 use mathlib.Core.Path.{_≡_, sym, subst, _∙_}
 use mathlib.Core.Option.{some}

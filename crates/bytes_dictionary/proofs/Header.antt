@@ -1,4 +1,4 @@
--- The header of a memory that stands for a store: its check passes, and it is kept where its words are and the slices are long enough. Assumes nothing.
+-- The header of a memory that stands for a store passes its check. It stays a header if its words stay and the slices are long enough. Assumes nothing.
 use Prim.Native.Nat.{ℕ, _≤_, _<_}
 use mathlib.Core.Path.{_≡_, _∙_}
 use native.Mathlib.Omega.{arith}

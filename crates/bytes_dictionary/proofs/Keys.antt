@@ -1,4 +1,4 @@
--- A key is stored part after part, each lent the tail behind the part before. Assumes nothing.
+-- A key is stored part after part. Each part is lent the tail behind the part before. Assumes nothing.
 use Prim.Native.Nat.{ℕ, _+_, _-_, _≤_}
 use mathlib.Core.Path.{_≡_, refl, sym, ap, _∙_}
 use mathlib.Core.List.{_++_}

@@ -1,4 +1,4 @@
--- The count's word, and what a dictionary's words have to do with the length of `lists`. Assumes nothing.
+-- What the count's word says. The words of a dictionary lie inside `lists`. Assumes nothing.
 use Prim.Native.Nat.{ℕ, _+_, _*_, _≤_, _<_}
 use mathlib.Core.Path.{_≡_}
 use mathlib.Core.Logic.{inl, inr}

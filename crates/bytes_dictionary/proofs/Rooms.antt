@@ -1,4 +1,4 @@
--- Where a planned entry lies: behind what every entry has of its page, and behind its own dictionary's entries. Assumes nothing.
+-- A planned entry lies behind all entries in its page, and behind all entries of its dictionary. Assumes nothing.
 use Prim.Native.Nat.{ℕ, suc, _+_, _*_, _≤_, _<_}
 use mathlib.Core.Path.{_≡_, ap, subst, _∙_}
 use mathlib.Core.Logic.{_≢_, _⊎_, inl, inr}

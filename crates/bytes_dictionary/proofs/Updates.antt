@@ -1,4 +1,4 @@
--- A function changed at one number, `upd` of the pages' crate. Assumes nothing.
+-- Laws of `upd` (crate slices), a function changed at one number. Assumes nothing.
 use Prim.Native.Nat.{ℕ}
 use mathlib.Core.Path.{_≡_, refl, sym, ap, _∙_}
 use mathlib.Core.Logic.{_≢_, _⊎_, inl, inr}

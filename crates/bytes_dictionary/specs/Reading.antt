@@ -18,7 +18,7 @@ use Rattle.bytes_dictionary.specs.Store.{Store, StoreAt}
 unfoldable pub countIn : Sizes → ℕ → Counted
 countIn s w = cond (leb w (s .e)) (C.Entries w) C.Bad
 
--- The part of the pages that a lookup names has the entry's bytes; Nothing is named where no entry is.
+-- What a lookup gives. An entry: the part of the pages that it names has the entry's bytes. No entry: Nothing.
 abbrev pub Gives : Bytes → Option Bytes → Lookup → Type 0
 Gives pages (some key) (At at len) = take len (drop at pages) ≡ key
 Gives pages (some key) Nothing = ⊥
@@ -32,7 +32,7 @@ LookupInside s (At at len) = at + len ≤ pageBytes s
 LookupInside s Nothing = Unit {0}
 LookupInside s Bad = Unit {0}
 
--- What a lookup of entry i of dictionary d answers: its part lies in the pages whatever the memory is.
+-- What a lookup of entry i of dictionary d answers. The part that it names lies in the pages, whatever the memory holds.
 pub record Looked (s : Sizes) (d i : ℕ) (lists : Bytes) (r : Lookup) : Type 0 where
   pub inside : LookupInside s r
   pub right : (pages : Bytes) (st : Store) → pageBytes s ≤ length pages → StoreAt s st pages lists → Gives pages (st .entries d i) r

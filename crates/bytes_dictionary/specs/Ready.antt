@@ -1,4 +1,4 @@
--- What is found out before an insert. Assumes nothing.
+-- What must hold before an insert. Assumes nothing.
 use Prim.Native.Nat.{ℕ, _+_, _^_, _≤_, _<_}
 use mathlib.Core.Path.{_≡_}
 use lib.ListN.{length}
@@ -15,7 +15,7 @@ use Rattle.bytes_dictionary.specs.Written.{IsSpot}
 use Rattle.bytes_dictionary.specs.Store.{Store}
 
 -- The search for the key ended at a free place, there is room for one entry more, the plan has a spot, and the
--- stamp is a new one.
+-- stamp is later than the last one.
 pub record Ready (s : Sizes) (st : Store) (pages lists : Bytes) (d place : ℕ) (spot : Spot) (stamp : ℕ) (key : Bytes) : Type 0 where
   pub known : d < dictionaries
   pub searched : Searched s d pages lists key (Free place)

@@ -1,4 +1,4 @@
--- All dictionaries in one memory, and which memory stands for which: facts that a program could check. Assumes nothing.
+-- All dictionaries of one memory, called a store; and which memory stands for which store, as facts that a program could check. Assumes nothing.
 use Prim.Native.Nat.{ℕ, suc, _+_, _≤_, _<_}
 use mathlib.Core.Path.{_≡_}
 use mathlib.Core.Logic.{_⊎_}
@@ -15,7 +15,7 @@ use Rattle.bytes_index.specs.Search.{HoldsEntries}
 use Rattle.bytes_buffer.specs.Pages.{Space, noSpace, upd, grownAt}
 use Rattle.bytes_buffer.specs.Tables.{PagesAt}
 
--- Of each dictionary its entries, how many they are, and the stamp of each; and the spaces.
+-- For each dictionary: its entries, their count, the stamp of each, and its space.
 pub record Store : Type 0 where
   pub entries : ℕ → Entries
   pub count : ℕ → ℕ
@@ -25,7 +25,7 @@ pub record Store : Type 0 where
 abbrev pub emptyStore : Store
 emptyStore = record { entries = λ d i. none; count = λ d. 0; stamp = λ d i. 0; space = noSpace }
 
--- The store after this key was entered into dictionary d: it has the next number.
+-- The store after the key was inserted into dictionary d. The key has the next number.
 unfoldable pub inserted : Sizes → Store → ℕ → Bytes → ℕ → Store
 inserted s st d key stamp =
     record {
@@ -39,12 +39,12 @@ inserted s st d key stamp =
 abbrev pub pageWordOf : (ℕ → ℕ) → ℕ → ℕ
 pageWordOf W w = W (pageAt (pageOf w))
 
--- The entry word w lies in what is used of a page of dictionary d.
+-- The entry of the word w lies in the used part of a page of dictionary d.
 pub record Lies (W : ℕ → ℕ) (d w : ℕ) : Type 0 where
   pub owner : ownerOf (pageWordOf W w) ≡ suc d
   pub ends : offsetOf w + sizeOf w ≤ usedOf (pageWordOf W w)
 
--- One entry word lies before another: in an earlier page of their dictionary, or before it in one page.
+-- The entry of w lies before that of w′: in an earlier page of their dictionary, or earlier in the same page.
 abbrev pub LiesBefore : (ℕ → ℕ) → ℕ → ℕ → Type 0
 LiesBefore W w w′ = (positionOf (pageWordOf W w) < positionOf (pageWordOf W w′)) ⊎ ((pageOf w ≡ pageOf w′) × (offsetOf w + sizeOf w ≤ offsetOf w′))
 
@@ -56,18 +56,18 @@ pub record DictAt (s : Sizes) (pages lists : Bytes) (d : ℕ) (es : Entries) (co
   -- an entry is in use exactly below the count
   pub in-use : (i : ℕ) → i < count → (key : Bytes) × (es i ≡ some key)
   pub past : (i : ℕ) → count ≤ i → es i ≡ none
-  -- each lies in what is used of a page of this dictionary, before the next one
+  -- each lies in the used part of a page of this dictionary, before the next one
   pub lies : (i : ℕ) → i < count → Lies (wordAt lists) d (wordAt lists (entryAt s d i))
   pub rises : (i : ℕ) → i + 1 < count → LiesBefore (wordAt lists) (wordAt lists (entryAt s d i)) (wordAt lists (entryAt s d (i + 1)))
   pub stamped : (i : ℕ) → i < count → wordAt lists (orderAt s d i) ≡ stamp i
   -- each stamp is above the one before
   pub rising : (i : ℕ) → i + 1 < count → stamp i < stamp (i + 1)
-  -- where no entry is the stamp is 0, so that one memory stands for one store
+  -- a number without an entry has the stamp 0, so that one memory stands for one store
   pub unstamped : (i : ℕ) → count ≤ i → stamp i ≡ 0
 
 -- The memory stands for the store.
 pub record StoreAt (s : Sizes) (st : Store) (pages lists : Bytes) : Type 0 where
-  -- the format and the sizes, so that the header's check passes it
+  -- the format and the sizes, so that the memory passes the check of its header
   pub header : HeaderOf s (length pages) lists
   pub paged : PagesAt s (st .space) (wordAt lists)
   pub dict : (d : ℕ) → d < dictionaries → DictAt s pages lists d (st .entries d) (st .count d) (st .stamp d)

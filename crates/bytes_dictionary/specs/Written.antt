@@ -25,7 +25,7 @@ entryWritten s lists d n page offset len stamp place h =
     (countAt d)
     (n + 1)
 
--- The key's bytes at its spot; and its words, with those of its page. Where there is no spot nothing is written.
+-- The pages get the key's bytes at its spot; `lists` gets its words and those of its page. Without a spot nothing is written.
 unfoldable pub pagesAfter : Sizes → Bytes → Spot → Bytes → Bytes
 pagesAfter s pages (Current page offset) key = sets pages (page * pageSize s + offset) key
 pagesAfter s pages (Next page) key = sets pages (page * pageSize s + 0) key
@@ -46,7 +46,7 @@ roomOf (Next page) = At page 0
 roomOf NoPage = Nothing
 roomOf Bad = Nothing
 
--- A spot that has room for an entry of len bytes, as every plan's has.
+-- The spot, if there is one, has room for an entry of len bytes. This holds of every planned spot.
 abbrev pub HasRoom : Sizes → ℕ → Spot → Type 0
 HasRoom s len (Current page offset) = (page < s .n) × (offset + len ≤ pageSize s)
 HasRoom s len (Next page) = (page < s .n) × (len ≤ pageSize s)

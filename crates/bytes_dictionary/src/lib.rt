@@ -1,4 +1,4 @@
-// A dictionary's entries, inserted and read (Nemo's bytes_dictionary.rs). Its search is in bytes_index.
+// Inserts and reads a dictionary's entries (Nemo's bytes_dictionary.rs). The search is in bytes_index.
 use bytes_buffer::Spot;
 use bytes_index::Span;
 use layout::COUNT;
@@ -52,7 +52,7 @@ fn write_tail(tail: &mut [u8], mode: Mode, front: &[u8], rest: &[u8])
     parts::write(Mode::Raw, rest, &mut tail[m..]);
 }
 
-// Writes a key at `at` of the pages. Its page ends at `end`: the tail from the key on is lent to the byte writer, and no byte of another page.
+// Writes a key at `at` in the pages. Its page ends at `end`. The byte writer is lent only the tail from `at` to `end`, no byte of another page.
 fn write_key(pages: &mut [u8], at: usize, end: usize, mode: Mode, front: &[u8], rest: &[u8])
     requires { ⌜ (at + length (keyBytes mode (now front) (now rest)) ≤ end) × (end ≤ length (now pages)) ⌝ }
     ensures { λ _. ⌜ now (pages .exit) ≡ sets (now (pages .entry)) at (keyBytes mode (now (front .entry)) (now (rest .entry))) ⌝ }
@@ -75,7 +75,7 @@ fn entry_word(lies: Extent) -> usize
     lies.page + PAGE_NUMBERS * lies.offset + LENGTH * lies.len
 }
 
-// What an index place has of entry number n, whose key has the hash h.
+// The value of the index place of entry number n, whose key has the hash h.
 fn place_word(n: usize, h: u32) -> usize
     requires { ⌜ n < 1048576 ⌝ }
     ensures { λ r. ⌜ r ≡ placeWord n h ⌝ }
@@ -83,7 +83,7 @@ fn place_word(n: usize, h: u32) -> usize
     n + 1 + ENTRY_NUMBERS * bytes_index::top_bits(h)
 }
 
-// What a fresh entry gets: its dictionary and its number there, the index place that names it, and its stamp; and its key's hash.
+// A fresh entry: its dictionary, its number there, the index place that names it, its stamp, and the hash of its key.
 pub struct NewEntry {
     pub d: usize,
     pub n: usize,
@@ -129,7 +129,7 @@ fn place_entry(
     write_entry(lists, s, x, lies);
 }
 
-// Where an entry's bytes go. Nothing: the spot is none.
+// Where an entry's bytes go. Nothing: the plan found no spot.
 enum Room {
     At { page: usize, offset: usize },
     Nothing,
@@ -146,7 +146,7 @@ fn room_at(spot: Spot) -> Room
     }
 }
 
-// Writes a fresh key where it was planned. It cannot fail; a plan without a spot has nothing written.
+// Writes a fresh key at its planned spot. It cannot fail. If the plan found no spot, it writes nothing.
 pub fn insert(
     pages: &mut [u8],
     lists: &mut [u8],
@@ -185,7 +185,7 @@ pub fn insert(
     }
 }
 
-// Where an entry lies in the pages; Nothing from the count up. Bad: the memory is no dictionary's.
+// Where an entry lies in the pages. Nothing: its number is not below the count. Bad: the memory is no dictionary's.
 pub enum Lookup {
     At { at: usize, len: usize },
     Nothing,
@@ -209,7 +209,7 @@ pub fn look_up(lists: &[u8], s: Sizes, d: usize, id: EntryId) -> Lookup
     Lookup::At { at, len }
 }
 
-// The bytes of an entry that lies there.
+// The bytes of an entry that lies at `at`.
 pub fn id_to_bytes(pages: &[u8], at: usize, len: usize) -> &[u8]
     requires { ⌜ at + len ≤ length (now pages) ⌝ }
     ensures { λ r. ⌜ now r ≡ take len (drop at (now (pages .entry))) ⌝ }

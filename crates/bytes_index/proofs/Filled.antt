@@ -1,4 +1,4 @@
--- How the number of filled places goes with what stands there. Assumes nothing.
+-- How many places are filled: none, all, as many as before, or one more. Assumes nothing.
 use mathlib.Core.Path.{_≡_, refl, sym, ap}
 use mathlib.Core.Logic.{_≢_}
 use Prim.Native.Nat.{ℕ, zero, suc, _+_, _≤_, _<_}

@@ -1,4 +1,4 @@
--- What memory that holds a dictionary's entries says of a search in it. Assumes nothing.
+-- What a search answers in memory that holds a dictionary's entries. Assumes nothing.
 use mathlib.Core.Path.{_≡_, _∙_, sym, ap, subst}
 use mathlib.Core.Logic.{_≢_}
 use mathlib.Core.Option.{some}

@@ -1,5 +1,5 @@
--- What it is that a dictionary's memory holds entries: facts that a program could check. The words, quads and page bytes are functions of
--- their index, so that a frame is agreement. Assumes nothing.
+-- When a dictionary's memory holds given entries, as facts that a program could check. Words, quads and page bytes are functions of their index:
+-- memory in which these functions agree holds the same entries. Assumes nothing.
 use mathlib.Core.Path.{_≡_}
 use mathlib.Core.Logic.{_≢_}
 use mathlib.Core.Option.{Option, none, some}
@@ -13,7 +13,7 @@ use Rattle.layout.specs.Fields.{pageOf, offsetOf, sizeOf, placeWord}
 use Rattle.bytes_index.specs.Place.{placeAfter}
 use Rattle.bytes_index.specs.Filled.{filled}
 
--- The bytes of an entry by its number; none where the number is not in use.
+-- The bytes of an entry by its number; none if the number is not in use.
 abbrev pub Entries : Type 0
 Entries = ℕ → Option Bytes
 
@@ -32,8 +32,8 @@ pub record Addresses (s : Sizes) (B : ℕ → ℕ) (w : ℕ) (key : Bytes) : Typ
   pub sized : sizeOf w ≡ length key
   pub bytes : (k : ℕ) → k < length key → B (addressOf s w + k) ≡ getD key k 0
 
--- The search from h meets entry i: at `step`, and no place before it is empty. Q gives the dictionary's index places. A place has the hash of its
--- entry's key beside the entry.
+-- The search from h meets entry i after `step` steps, and no place before it is empty. Q gives the dictionary's index places. A place holds its
+-- entry and the top bits of the hash of the entry's key.
 pub record Met (Q : ℕ → ℕ) (m h i : ℕ) : Type 0 where
   pub step : ℕ
   pub near : step < m
@@ -48,7 +48,7 @@ pub record FreeAt (Q : ℕ → ℕ) (m h j : ℕ) : Type 0 where
   pub empty : Q j ≡ 0
   pub full : (k : ℕ) → k < step → Q (placeAfter m h k) ≢ 0
 
--- The memory holds these entries: B are the pages' bytes, W the entry words, Q the index places, e and 2e of them.
+-- The memory holds these entries. B gives the pages' bytes, W the e entry words, Q the 2e index places.
 pub record Holds (s : Sizes) (B W Q : ℕ → ℕ) (es : Entries) : Type 0 where
   pub entry : (i : ℕ) (key : Bytes) → es i ≡ some key → (i < s .e) × Addresses s B (W i) key
   pub names : (j : ℕ) → j < 2 * s .e → Q j ≢ 0 → (i : ℕ) × (key : Bytes) × (es i ≡ some key) × (Q j ≡ placeWord i (fnvOf key))
@@ -56,7 +56,7 @@ pub record Holds (s : Sizes) (B W Q : ℕ → ℕ) (es : Entries) : Type 0 where
   pub count : filled Q (2 * s .e) ≡ filled (λ i. used (es i)) (s .e)
   pub apart : (i j : ℕ) (key : Bytes) → es i ≡ some key → es j ≡ some key → i ≡ j
 
--- No entry is the key, and j is where its search ends.
+-- No entry has the key, and the search for it ends at place j.
 pub record Misses (s : Sizes) (Q : ℕ → ℕ) (es : Entries) (key : Bytes) (j : ℕ) : Type 0 where
   pub absent : (i : ℕ) → es i ≡ some key → ⊥
   pub free : FreeAt Q (2 * s .e) (fnvOf key) j

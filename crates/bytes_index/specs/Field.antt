@@ -1,4 +1,4 @@
--- What an entry word says, as far as it can be believed. Assumes nothing.
+-- What an entry word says, in any memory. Assumes nothing.
 use mathlib.Core.Path.{_≡_}
 use mathlib.Core.Bool.{_&&_, cond}
 use Prim.Native.Nat.{ℕ, _+_, _≤_}

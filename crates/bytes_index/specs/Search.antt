@@ -18,7 +18,7 @@ use Rattle.bytes_index.specs.Entries.{Entries, Addresses, Met, FreeAt, H
 use Rattle.bytes_index.specs.declared.Probe.{Probe}
 use Rattle.bytes_index.specs.declared.Probe.the-variants.{At, Free, Bad}
 
--- A key is a front and a rest, where they lie.
+-- A key: the stored bytes of a front, then a rest.
 abbrev pub keyBytes : Mode → Bytes → Bytes → Bytes
 keyBytes mode front rest = bytesOf mode front ++ rest
 
@@ -26,11 +26,11 @@ keyBytes mode front rest = bytesOf mode front ++ rest
 unfoldable pub frontIs : Bytes → Bytes → ℕ → Bool
 frontIs stored front n = eqb (length stored) (length front + n) && sameBytes front (take (length front) stored)
 
--- The bytes of the rest with more than a and at most b bytes left are the same in the pages, where the rest ends at `end`.
+-- The last b bytes of the rest, without the last a, are the same in the pages, where the rest ends at `end`.
 abbrev pub Agree : Bytes → ℕ → Bytes → ℕ → ℕ → Type 0
 Agree pages end rest a b = (k : ℕ) → a < k → k ≤ b → getD pages (end - k) 0 ≡ getD rest (length rest - k) 0
 
--- With `left` bytes left, r more agree; 0: not all of the rest agrees.
+-- The last `left` bytes are still to compare, and r more agree. 0: not all of the rest agrees.
 pub record Agreeing (pages : Bytes) (end : ℕ) (rest : Bytes) (left r : ℕ) : Type 0 where
   pub within : r ≤ left
   pub same : Agree pages end rest (left - r) left
@@ -40,13 +40,13 @@ pub record Agreeing (pages : Bytes) (end : ℕ) (rest : Bytes) (left r : ℕ) : 
 abbrev pub HoldsEntries : Sizes → ℕ → Bytes → Bytes → Entries → Type 0
 HoldsEntries s d pages lists es = Holds s (λ a. getD pages a 0) (λ i. wordAt lists (entryAt s d i)) (λ j. quadAt lists (placeAt s d j)) es
 
--- The number of the key's entry; or where its search ended at an empty place; Bad never comes where the dictionary holds.
+-- At: the number of the key's entry. Free: the empty place where the search ended. If the dictionary holds entries, Bad is never answered.
 abbrev pub Answer : Sizes → ℕ → Bytes → Entries → Bytes → Probe → Type 0
 Answer s d lists es key (At i) = es i ≡ some key
 Answer s d lists es key (Free j) = Misses s (λ k. quadAt lists (placeAt s d k)) es key j
 Answer s d lists es key Bad = ⊥
 
--- What holds of an answer whatever the memory holds.
+-- The bounds of an answer, whatever the memory holds.
 abbrev pub Ranged : Sizes → Probe → Type 0
 Ranged s (At i) = i < s .e
 Ranged s (Free j) = j < 2 * s .e

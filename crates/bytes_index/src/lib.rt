@@ -1,4 +1,4 @@
-// The searched index of a dictionary's entries (Nemo's bytes_dictionary.rs, whose HashMap it replaces).
+// The index in which a dictionary's entries are searched. It replaces the HashMap of Nemo's bytes_dictionary.rs.
 use layout::ENTRY_NUMBERS;
 use layout::LENGTH;
 use layout::OFFSETS;
@@ -47,7 +47,7 @@ fn start(h: u32, m: usize) -> usize
     h % m
 }
 
-// The bits of a hash that its index place has.
+// The top bits of a hash, which an index place holds.
 pub fn top_bits(h: u32) -> usize
     ensures { λ r. ⌜ (r ≡ topOf h) × (r < 2048) ⌝ }
 {
@@ -86,7 +86,7 @@ pub fn entry(lists: &[u8], s: Sizes, d: usize, i: usize) -> Span
     }
 }
 
-// Whether a stored key is the front, whose stored length is `measured`, and `rest` bytes more.
+// Whether a stored key begins with the front and has `rest` bytes more. The front's stored length is `measured`.
 fn front_is(stored: &[u8], mode: Mode, front: &[u8], measured: usize, rest: usize) -> bool
     requires { ⌜ measured ≡ length (bytesOf mode (now front)) ⌝ }
     ensures { λ r. ⌜ r ≡ frontIs (now (stored .entry)) (bytesOf mode (now (front .entry))) rest ⌝ }
@@ -104,7 +104,8 @@ fn front_is(stored: &[u8], mode: Mode, front: &[u8], measured: usize, rest: usiz
     parts::same(mode, front, &stored[..measured])
 }
 
-// How many bytes more agree of the `left` last ones of the rest, which end at `end` in the pages: eight at a time where the rest has eight, else all of them. 0: they do not agree.
+// Compares more bytes of the rest with the pages, where a stored rest ends at `end`. The last `left` bytes are still to compare. Answers how many more
+// agree: up to eight if the rest has eight, else all of them. 0: they do not agree.
 fn agreeing(pages: &[u8], end: usize, rest: &[u8], left: usize) -> usize
     requires { ⌜ (0 < left) × (left ≤ length (now rest)) × (length (now rest) ≤ end) × (end ≤ length (now pages)) ⌝ }
     ensures { λ r. ⌜ Agreeing (now (pages .entry)) end (now (rest .entry)) left r ⌝ }
@@ -125,8 +126,8 @@ fn agreeing(pages: &[u8], end: usize, rest: &[u8], left: usize) -> usize
     if left < 8 { left } else { 8 }
 }
 
-// Searches the index of dictionary d for a key: from its hash h up, 2e places at the most, to its entry or the first empty place.
-// The caller hashes, since it knows which parts of the key are there. An entry whose hash has other top bits is another key's.
+// Searches the index of dictionary d for a key. It goes from the key's hash h up, over at most 2e places, to the key's entry or the first empty place.
+// The caller computes the hash, because it knows which parts the key has. An entry whose hash has other top bits has another key.
 fn probe_index(
     pages: &[u8],
     lists: &[u8],
@@ -190,7 +191,7 @@ fn probe_index(
 }
 
 // Searches the index of dictionary d for a key.
-// The slices are handed on as parts of themselves: so the compiler takes them apart, and a call hands over what they hold in registers.
+// Each slice is passed on as a part of itself. So the compiler takes the slices apart, and a call passes their contents in registers.
 pub fn bytes_to_id(
     pages: &[u8],
     lists: &[u8],

@@ -1,14 +1,14 @@
--- FNV-1a of 32 bits, as document 01 has it: start 2166136261, prime 16777619, wrapping. Assumes nothing.
+-- FNV-1a of 32 bits, by document 01: start 2166136261, prime 16777619, wrapping. Assumes nothing.
 use mathlib.Core.List.{[], _∷_}
 use Prim.Native.Nat.{ℕ, _*_, _%_, _^_}
 use lib.Bits.{bitOr, bitXor}
 use Rattle.slices.specs.Bytes.{Bytes}
 
--- One byte taken in.
+-- The hash h, extended by the byte b.
 unfoldable pub fnvStep : ℕ → ℕ → ℕ
 fnvStep h b = bitXor h b * 16777619 % 2 ^ 32
 
--- The bytes taken in, first to last, from the hash h.
+-- The hash h, extended by the bytes, first to last.
 unfoldable pub fnvFrom : ℕ → Bytes → ℕ
 fnvFrom h [] = h
 fnvFrom h (b ∷ s) = fnvFrom (fnvStep h b) s
@@ -16,7 +16,7 @@ fnvFrom h (b ∷ s) = fnvFrom (fnvStep h b) s
 unfoldable pub fnvOf : Bytes → ℕ
 fnvOf s = fnvFrom 2166136261 s
 
--- The bits of b, and each bit that one of the bytes has.
+-- The bitwise or of b and all bytes.
 unfoldable pub bitsFrom : ℕ → Bytes → ℕ
 bitsFrom b [] = b
 bitsFrom b (x ∷ s) = bitsFrom (bitOr b x) s

@@ -1,4 +1,4 @@
-// FNV-1a of 32 bits: where the search for a stored byte string starts.
+// FNV-1a of 32 bits. The hash decides where the search for a stored byte string starts.
 ghost use mathlib.Core.Path.{_≡_};
 ghost use Prim.Native.Nat.{_*_, _%_, _^_, _<_};
 ghost use Rattle.fnv.specs.Fnv.{fnvStep, fnvFrom, fnvOf, bitsFrom};
@@ -15,20 +15,20 @@ pub fn wrapping_mul(a: u32, b: u32) -> u32
     (x * y % 0x1_0000_0000) as u32
 }
 
-// The hash h taken on over one byte.
+// Extends the hash h by one byte.
 pub fn fnv_step(h: u32, b: u8) -> u32
     ensures { λ r. ⌜ r ≡ fnvStep h b ⌝ }
 {
     wrapping_mul(h ^ b as u32, 16777619)
 }
 
-// A hash, and each bit that one of the bytes has: below 0x80 every byte is ASCII, and with it text.
+// A hash, and the bitwise or of the bytes. If `bits` is below 0x80, every byte is ASCII, so the bytes are text.
 pub struct Scanned {
     pub h: u32,
     pub bits: u8,
 }
 
-// The hash `start` and the bits taken on over the bytes of s. A step of the hash waits for the one before, and the bits come for nothing.
+// Extends the hash `start` and the bits by the bytes of s. Each step of the hash waits for the one before, so the bits cost no time.
 pub fn scan(start: u32, bits: u8, s: &[u8]) -> Scanned
     ensures { λ r. ⌜ (r .h ≡ fnvFrom start (now (s .entry))) × (r .bits ≡ bitsFrom bits (now (s .entry))) ⌝ }
 {
@@ -43,7 +43,7 @@ pub fn scan(start: u32, bits: u8, s: &[u8]) -> Scanned
     Scanned { h, bits: seen }
 }
 
-// The hash `start` taken on over the bytes of s.
+// Extends the hash `start` by the bytes of s.
 pub fn fnv_from(start: u32, s: &[u8]) -> u32
     ensures { λ r. ⌜ r ≡ fnvFrom start (now (s .entry)) ⌝ }
 {

@@ -1,4 +1,4 @@
--- What initialisation leaves has a dictionary's header, zero in every other word, and beyond its end what was there. Assumes nothing.
+-- After initialisation `lists` has a dictionary's header and zero in every other word. The bytes beyond its end stay. Assumes nothing.
 use Prim.Native.Nat.{ℕ, zero, suc, _+_, _*_, _^_, _≤_, _<_}
 use mathlib.Core.Path.{_≡_, refl, _∙_}
 use mathlib.Core.List.{[], _∷_}

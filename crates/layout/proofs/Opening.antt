@@ -1,4 +1,4 @@
--- What the check of the header always refuses, that it passes every dictionary's memory, and that it passes no other. Assumes nothing.
+-- The check of the header refuses in every case where document 01 requires it. It passes a dictionary's memory, and no other. Assumes nothing.
 use Prim.Native.Nat.{ℕ, _+_, _*_, _≤_}
 use mathlib.Core.Path.{_≡_, refl, sym, ap, _∙_}
 use mathlib.Core.Logic.{_≢_, inl, inr}
@@ -58,7 +58,7 @@ pages-short pages lists = ltb pages (pageBytes (sizesIn lists))
 abbrev lists-short : Bytes → Bool
 lists-short lists = ltb (length lists) (listBytes (sizesIn lists))
 
--- Refusal 3 is given where the format does not stand.
+-- Refusal 3 is given if the first word is not the format.
 pub unformatted : (pages : ℕ) (lists : Bytes) → wordAt lists 0 ≢ format → headerOf pages lists ≡ Unopened
 unfolding headerOf
 unformatted pages lists n = later (small lists) _ (stop (foreign lists) _ (ap not (ne-eqb (wordAt lists 0) format n)))
@@ -72,7 +72,7 @@ zero-word : (lists : Bytes) → lists ≡ replicate (length lists) 0 → 512 ≤
 zero-word lists z l =
     word-zero lists 0 (λ k h. ap (λ (x : Bytes). getD x (8 * 0 + k) 0) z ∙ getD-replicate (length lists) (8 * 0 + k) 0 0 (omega arith))
 
--- Refusal 3 is given wherever document 01 says that it always is.
+-- Refusal 3 is given in every case where document 01 requires it.
 pub always : (pages lists : Bytes) → AlwaysUnopened pages lists → headerOf (length pages) lists ≡ Unopened
 unfolding headerOf
 always pages lists (all-zero z) = zero (split (small lists))

@@ -19,7 +19,7 @@ format = 0x32636964656D616E
 abbrev pub untakenAt : ℕ
 untakenAt = 6
 
--- How many words of the header each dictionary has. The last of them is kept free.
+-- How many words of the header each dictionary has. The last one is not used.
 abbrev pub stride : ℕ
 stride = 4
 
@@ -35,7 +35,7 @@ takenAt d = 18 + stride * d
 abbrev pub pageAt : ℕ → ℕ
 pageAt i = 64 + i
 
--- The words of dictionary d, 3e of them.
+-- The first of dictionary d's 3e words.
 unfoldable pub dictAt : Sizes → ℕ → ℕ
 dictAt s d = 64 + s .n + d * (3 * s .e)
 
@@ -49,7 +49,7 @@ orderAt s d i = dictAt s d + (s .e + i)
 abbrev pub placeAt : Sizes → ℕ → ℕ → ℕ
 placeAt s d j = 2 * (dictAt s d + 2 * s .e) + j
 
--- The words of kind k's local blocks, b of them; those of the global blocks stand where a further kind's would.
+-- The first of the b words of kind k's local blocks. The words of the global blocks follow those of the last kind.
 unfoldable pub blocksAt : Sizes → ℕ → ℕ
 blocksAt s k = dictAt s dictionaries + k * s .b
 

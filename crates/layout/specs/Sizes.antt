@@ -1,4 +1,4 @@
--- The sizes of a dictionary's memory, their ranges, and how long its names may be, as document 01 has them. Assumes nothing.
+-- The sizes of a dictionary's memory, their ranges, and how long its names may be, by document 01. Assumes nothing.
 use Prim.Native.Nat.{ℕ, _+_, _*_, _^_, _≤_}
 use mathlib.Core.Path.{_≡_, refl}
 use mathlib.Core.Bool.{Bool, _&&_, cond}
@@ -11,7 +11,7 @@ use Rattle.layout.specs.declared.Made.the-variants.{Fit, BadSize}
 unfoldable pub inRange : Sizes → Bool
 inRange s = within 13 20 (s .p) && (within 1 1024 (s .n) && (within 1 1048576 (s .e) && (within 4 24 (s .w) && within 1 4096 (s .b))))
 
--- The same as facts.
+-- The same ranges as facts.
 pub record InRange (s : Sizes) : Type 0 where
   pub p : (13 ≤ s .p) × (s .p ≤ 20)
   pub n : (1 ≤ s .n) × (s .n ≤ 1024)
@@ -22,19 +22,19 @@ pub record InRange (s : Sizes) : Type 0 where
 unfoldable pub made : Sizes → Made
 made s = cond (inRange s) (Fit s) BadSize
 
--- The most bytes that a name has, both parts together, and that a packed form has.
+-- The most bytes of a name, both parts together, and of a packed form.
 unfoldable pub nameLimit : ℕ
 nameLimit = 4000
 
 unfoldable pub packedLimit : ℕ
 packedLimit = 8002
 
--- A packed form is longest where every byte of the longest name is an escaped byte of the tag.
+-- A packed form is longest if every byte of the longest name is an escaped byte of the tag.
 pub packed-from-name : packedLimit ≡ 2 + 2 * nameLimit
 unfolding nameLimit packedLimit
 packed-from-name = refl
 
--- The most bytes that a name has in a dictionary of these sizes.
+-- The most bytes of a name in a dictionary of these sizes.
 unfoldable pub limit : Sizes → ℕ
 limit s = nameLimit
 

@@ -16,8 +16,8 @@ pub const KINDS: usize = 4;
 
 pub const DICTIONARIES: usize = 6;
 
-// Words of `lists`; specs/Fields.antt has the whole table. The lowest untaken page; of dictionary 0 its count of entries, its current page + 1
-// and its count of pages, those of the next dictionary STRIDE words on; page 0.
+// Words of `lists`, by their index; specs/Fields.antt has the whole table. UNTAKEN is the lowest untaken page. COUNT, CURRENT and TAKEN are of
+// dictionary 0: its count of entries, its current page + 1, its count of pages. Those of the next dictionary are STRIDE words on. PAGES is page 0.
 pub const UNTAKEN: usize = 6;
 
 pub const COUNT: usize = 16;
@@ -30,13 +30,13 @@ pub const STRIDE: usize = 4;
 
 pub const PAGES: usize = 64;
 
-// For each entry number every dictionary has three words; for each block every kind has one, and the global blocks have one.
+// Every dictionary has three words for each entry number. Every kind has one word for each block, and the global blocks have one each.
 const ENTRY_WORDS: usize = 3 * DICTIONARIES;
 
 const BLOCK_WORDS: usize = KINDS + 1;
 
 // Several numbers in one word. A page: its owner below OWNERS, then its used bytes below OFFSETS, then its position from POSITION up.
-// An entry: its page below PAGE_NUMBERS, then its offset below OFFSETS, then its length from LENGTH up. A block: 1, its kind below OWNERS, then its local block.
+// An entry: its page below PAGE_NUMBERS, then its offset below OFFSETS, then its length from LENGTH up. A block: 1 + its kind below OWNERS, then its local block.
 // An index place: its entry + 1 below ENTRY_NUMBERS, then the top bits of the hash.
 pub const OWNERS: usize = 16;
 
@@ -94,7 +94,7 @@ impl Sizes {
 
     pub const B_MOST: usize = 4096;
 
-    // The most bytes that a name's two parts have together, and that a packed form has.
+    // The most bytes of a name, both parts together, and of a packed form.
     pub const NAME_LIMIT: usize = 4000;
 
     pub const PACKED_LIMIT: usize = 8002;
@@ -121,7 +121,7 @@ impl Sizes {
         Made::Fit(Sizes { p, n, e, w, b })
     }
 
-    // The most bytes that a name of a dictionary with these sizes has.
+    // The most bytes of a name in a dictionary with these sizes.
     pub fn limit(self) -> usize
         ensures { λ r. ⌜ r ≡ limit self ⌝ }
     {
@@ -175,7 +175,7 @@ pub enum Header {
     Unopened,
 }
 
-// The sizes of a dictionary's memory, or that it is none.
+// The sizes of a dictionary's memory. Unopened: the memory is no dictionary's.
 pub fn check_header(pages: &[u8], lists: &[u8]) -> Header
     ensures { λ r. ⌜ r ≡ headerOf (length (now (pages .entry))) (now (lists .entry)) ⌝ }
 {
@@ -216,7 +216,7 @@ fn fill_zero(s: &mut [u8], n: usize)
     }
 }
 
-// Makes `lists` that of a dictionary with no entry.
+// Makes `lists` the memory of a dictionary with no entry.
 pub fn init(lists: &mut [u8], s: Sizes)
     requires { ⌜ InRange s × (listBytes s ≤ length (now lists)) ⌝ }
     ensures { λ _. ⌜ now (lists .exit) ≡ openedLists s (now (lists .entry)) ⌝ }

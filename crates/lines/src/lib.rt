@@ -2,7 +2,7 @@
 ghost use Prim.Native.Nat.{_≤_};
 ghost use lib.ListN.{length};
 
-// Where the mark is, from i on; the length if it is not there.
+// Where the mark stands, from i on; the length if it is not there.
 pub fn end_of(s: &[u8], i: usize, mark: u8) -> usize
     requires { ⌜ i ≤ length (now s) ⌝ }
     ensures { λ r. ⌜ (i ≤ r) × (r ≤ length (now (s .entry))) ⌝ }
@@ -17,7 +17,7 @@ pub fn end_of(s: &[u8], i: usize, mark: u8) -> usize
     k
 }
 
-// Behind the byte at i, if there is one.
+// The position behind the byte at i, if there is one; else i.
 pub fn behind(s: &[u8], i: usize) -> usize
     requires { ⌜ i ≤ length (now s) ⌝ }
     ensures { λ r. ⌜ (i ≤ r) × (r ≤ length (now (s .entry))) ⌝ }

@@ -1,4 +1,4 @@
--- Numbers given: no two are the same, a step moves none, and its new one is none of them. Assumes nothing.
+-- The numbers given: no two are the same. A step changes none of them, and its new number is another one. Assumes nothing.
 use Prim.Native.Nat.{ℕ, _+_, _*_, _/_, _%_, _^_, _<_}
 use mathlib.Core.Path.{_≡_, refl, sym, ap, _∙_}
 use mathlib.Core.Logic.{_≢_}

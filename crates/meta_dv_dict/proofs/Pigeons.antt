@@ -1,4 +1,4 @@
--- Numbers below m that differ from one another are m at the most: so a kind has at most B local blocks. Assumes nothing.
+-- There are at most m different numbers below m. So a kind has at most B local blocks. Assumes nothing.
 use Prim.Native.Nat.{ℕ, zero, suc, _-_, _*_, _/_, _^_, _<_, _≤_}
 use mathlib.Core.Path.{_≡_, refl, sym, ap, _∙_}
 use mathlib.Core.Logic.{inl, inr, _≢_}

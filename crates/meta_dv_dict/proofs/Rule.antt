@@ -1,4 +1,4 @@
--- The rule on the kinds of the fresh names is what the steps from the opened state give. Assumes nothing.
+-- The block rule, on the kinds of the fresh names, gives the numbers that the steps from the opened state give. Assumes nothing.
 use Prim.Native.Nat.{ℕ, zero, suc, _+_, _-_, _*_, _/_, _%_, _^_}
 use mathlib.Core.Path.{_≡_, refl, sym, ap, subst, _∙_}
 use mathlib.Core.Logic.{inl, inr}

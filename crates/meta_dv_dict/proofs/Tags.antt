@@ -1,4 +1,4 @@
--- What a let .. else leaves of an answer. Assumes nothing.
+-- What is known of an answer in the else of a let .. else. Assumes nothing.
 use mathlib.Core.Path.{_≡_, refl}
 use native.Mathlib.Omega.{arith}
 use denote.Enum.Declared.{tagOf}

@@ -35,14 +35,14 @@ abbrev pub start : Blocks → ℕ → ℕ → ℕ
 start b k zero = zero
 start b k (suc l) = b .blockOf k l + l
 
--- The block of the kind k's next number: where a local block begins, the first free one below B; else the one that it is in.
+-- The block of the kind k's next number. If a local block begins with it, a search gives the first free block below B. Else its local block has one.
 unfoldable pub pick : Sizes → Blocks → ℕ → Option ℕ
 pick s b k =
     cond (eqb (b .next k % 2 ^ s .w) zero)
     (search (b .owner) (start b k (b .next k / 2 ^ s .w)) (s .b - start b k (b .next k / 2 ^ s .w)))
     (some (b .blockOf k (b .next k / 2 ^ s .w)))
 
--- The kind k's next number is given, in the block g. Where the local block goes on, this writes what is there.
+-- The kind k's next number is given, in the block g. If its local block began earlier, the owner and the block written are those already there.
 abbrev pub took : ℕ → Blocks → ℕ → ℕ → Blocks
 took w b k g = record {
   owner = upd (b .owner) g (held k (b .next k / 2 ^ w));

@@ -1,4 +1,4 @@
--- The block rule of document 01, section Blocks, from the sizes and the kinds of the fresh names in order alone. Assumes nothing.
+-- The block rule of document 01, section Blocks. It uses only the sizes and the kinds of the fresh names, in order. Assumes nothing.
 use Prim.Native.Nat.{ℕ, zero, suc, _+_, _-_, _*_, _/_, _%_, _^_}
 use mathlib.Core.Bool.{Bool, false, _||_, _&&_, cond}
 use mathlib.Core.List.{List, [], _∷_}
@@ -6,7 +6,7 @@ use mathlib.Core.Option.{Option, none, some}
 use lib.Dec.{eqb}
 use Rattle.layout.specs.declared.Sizes.{Sizes}
 
--- What a fresh name was granted: the block that its kind's local block is held in. Lists of them have the newest first.
+-- What a fresh name was granted: its kind, its local block, and the global block that holds it. Lists of grants have the newest first.
 pub record Grant : Type 0 where
   pub kind : ℕ
   pub local : ℕ
@@ -36,7 +36,7 @@ abbrev pub searchFrom : List Grant → ℕ → ℕ → ℕ
 searchFrom xs k zero = zero
 searchFrom xs k (suc l) = holding xs k l + l
 
--- The block of the kind k's local number n, the next one, which "is in local block n / 2^w": searched for where that begins.
+-- The block of the kind k's next local number n, which "is in local block n / 2^w". If that local block begins with n, a block is searched for.
 abbrev pub blockFor : Sizes → List Grant → ℕ → ℕ → Option ℕ
 blockFor s xs k n =
     cond (eqb (n % 2 ^ s .w) zero)
@@ -57,6 +57,6 @@ abbrev pub numberIn : Sizes → ℕ → Option ℕ → Option ℕ
 numberIn s n none = none
 numberIn s n (some g) = some (g * 2 ^ s .w + n % 2 ^ s .w)
 
--- The number that a fresh name of the kind k gets after fresh names of the kinds ks, newest first; none: no block is free from where the search starts.
+-- The number that a fresh name of the kind k gets after fresh names of the kinds ks, newest first. none: the search finds no free block.
 unfoldable pub blockRule : Sizes → List ℕ → ℕ → Option ℕ
 blockRule s ks k = numberIn s (grantsOf k (granted s ks)) (blockFor s (granted s ks) k (grantsOf k (granted s ks)))

@@ -11,7 +11,7 @@ use Rattle.layout.specs.Fields.{localAt, globalAt, blockWord}
 use Rattle.meta_dv_dict.specs.Blocks.{Block, free, held, Blocks}
 use Rattle.meta_dv_dict.specs.Sound.{Sound, Below}
 
--- The word of the kind k's local block l: 0 where it is not begun.
+-- The word of the kind k's local block l: 0 if it has not begun.
 abbrev pub localWord : ℕ → Blocks → ℕ → ℕ → ℕ
 localWord w b k l = cond (ltb (l * 2 ^ w) (b .next k)) (b .blockOf k l + 1) 0
 
@@ -24,7 +24,7 @@ abbrev pub wordOwner : ℕ → Block
 wordOwner zero = free
 wordOwner (suc x) = held (x % 16) (x / 16)
 
--- What the word of block g says, where the words start at an index.
+-- What the word of block g says. The words of the blocks start at the index `at`.
 unfoldable pub ownerIn : Bytes → ℕ → ℕ → Block
 ownerIn lists at g = wordOwner (wordAt lists (at + g))
 
@@ -34,5 +34,5 @@ pub record BlocksAt (s : Sizes) (b : Blocks) (lists : Bytes) : Type 0 where
   pub sound : Sound (s .w) b
   pub below : Below (s .b) b
   pub kind : (g k l : ℕ) → b .owner g ≡ held k l → k < kinds
-  -- What no memory holds is zero, so that with the kinds' counts one memory holds one state.
+  -- a local block that has not begun is zero, so that one memory and the kinds' counts hold one state
   pub unused : (k l : ℕ) → b .next k ≤ l * 2 ^ s .w → b .blockOf k l ≡ zero

@@ -1,5 +1,5 @@
-// The block rules (Nemo's meta_dv_dict.rs): which global block a kind's next local number is in, and the ways between local and global numbers.
-// Only this file converts one into the other. The memory may be anybody's: every number read from it is tested.
+// The block rules (Nemo's meta_dv_dict.rs): which global block a kind's next local number is in, and how local and global numbers are converted.
+// Only this file converts one into the other. The memory may be foreign, so every number read from it is tested.
 ghost use mathlib.Core.Path.{_≡_};
 ghost use Prim.Native.Nat.{_+_, _-_, _*_, _/_, _%_, _^_, _≤_, _<_};
 ghost use lib.ListN.{length};
@@ -35,7 +35,7 @@ pub enum Allocated {
     Bad,
 }
 
-// The first free block from a block up.
+// The first free block, from the block `from` up.
 fn first_free(lists: &[u8], s: Sizes, from: usize) -> Allocated
     requires { ⌜ InRange s × (listBytes s ≤ length (now lists)) ⌝ }
     ensures { λ r. ⌜ r ≡ allocated (search (ownerIn (now (lists .entry)) (blocksAt s kinds)) from (s .b - from)) ⌝ }
@@ -52,13 +52,13 @@ fn first_free(lists: &[u8], s: Sizes, from: usize) -> Allocated
     Allocated::NoBlock
 }
 
-// Where a local block is held.
+// The global block that holds a local block. Bad: the memory is no dictionary's.
 enum Held {
     In(usize),
     Bad,
 }
 
-// The global block that the kind k's local block l is held in.
+// The global block that holds the kind k's local block l.
 fn held_in(lists: &[u8], s: Sizes, k: usize, l: usize) -> Held
     requires { ⌜ InRange s × (listBytes s ≤ length (now lists)) × (k < kinds) × (l < s .b) ⌝ }
     ensures { λ r. ⌜ r ≡ heldBy (s .b) (wordAt (now (lists .entry)) (localAt s k l)) ⌝ }
@@ -81,7 +81,7 @@ pub fn allocate_block(lists: &[u8], s: Sizes, k: usize, local: LocalId) -> Alloc
     let n = local.0;
     let size = block_size(s);
     let l = n / size;
-    // Each local block takes a global one, so none is left for this one.
+    // Each earlier local block has taken a global one, so none is left for this one.
     if s.b <= l {
         return Allocated::NoBlock;
     }
@@ -122,7 +122,7 @@ pub fn number_in(s: Sizes, g: usize, local: LocalId) -> GlobalId
     GlobalId(g * size + rest)
 }
 
-// A global number, or the memory is no dictionary's.
+// A global number. Bad: the memory is no dictionary's.
 pub enum Number {
     Global(GlobalId),
     Bad,
@@ -144,14 +144,14 @@ pub fn local_to_global(lists: &[u8], s: Sizes, k: usize, local: LocalId) -> Numb
     Number::Global(number_in(s, g, local))
 }
 
-// What a global number is by its block.
+// What the block of a global number says of it. Bad: the memory is no dictionary's.
 pub enum Owner {
     Local(usize, LocalId),
     Free,
     Bad,
 }
 
-// The kind and the local number that a global number has by its block. Whether a name got it, the kind's count says.
+// The kind and the local number of a global number, by its block. The kind's count tells whether a name has it.
 pub fn global_to_local(lists: &[u8], s: Sizes, number: GlobalId) -> Owner
     requires { ⌜ InRange s × (listBytes s ≤ length (now lists)) ⌝ }
     ensures { λ r. ⌜ Locals s (now (lists .entry)) (number .0) r ⌝ }

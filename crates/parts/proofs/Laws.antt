@@ -1,4 +1,4 @@
--- What escaping does to a list of bytes; stores and comparisons one form after the other. Assumes nothing.
+-- What escaping does to a list of bytes; storing and comparing one form after the other. Assumes nothing.
 use Prim.Native.Nat.{ℕ, suc, _+_, _-_, _*_, _≤_, _<_}
 use mathlib.Core.Path.{_≡_, refl, sym, _∙_, ap}
 use mathlib.Core.Logic.{_⊎_, inl, inr, _≢_}

@@ -1,4 +1,4 @@
-// A part of a name as it is stored: a slice with a mode. The loops that know the modes are here, and no others.
+// A part of a name as it is stored: a slice with a mode. Only the loops of this crate know the modes.
 ghost use mathlib.Core.Path.{_≡_};
 ghost use mathlib.Core.List.{[], _∷_, _++_};
 ghost use Prim.Native.Nat.{_+_, _^_, _≤_, _<_};
@@ -10,11 +10,11 @@ ghost use Rattle.parts.specs.Parts.{escape, escaped, shortTag, longTag, 
 
 pub enum Mode {
     Raw,
-    // A tag as it stands in front of its text.
+    // A tag in the form in which it stands before its text.
     Tag,
 }
 
-// The most bytes of a tag that has its length in front of it.
+// The most bytes of a tag that is stored with its length in front.
 pub const SHORT: usize = 127;
 
 // One byte as it is stored.
@@ -73,7 +73,7 @@ fn measure_tag(s: &[u8]) -> usize
     }
 }
 
-// How many bytes are stored. A tag may have twice as many, and two, which may be more than can be counted.
+// How many bytes are stored. Escaping at most doubles a tag and adds two; `requires` excludes overflow.
 pub fn measure(mode: Mode, s: &[u8]) -> usize
     requires { ⌜ length (bytesOf mode (now s)) < 2 ^ 64 ⌝ }
     ensures { λ r. ⌜ r ≡ length (bytesOf mode (now (s .entry))) ⌝ }
@@ -160,7 +160,7 @@ fn write_tag(s: &[u8], dst: &mut [u8])
     }
 }
 
-// Writes the stored bytes at the front of dst, and leaves what is past them.
+// Writes the stored bytes at the front of dst. The bytes behind them stay.
 pub fn write(mode: Mode, s: &[u8], dst: &mut [u8])
     requires { ⌜ length (bytesOf mode (now s)) ≤ length (now dst) ⌝ }
     ensures { λ _. ⌜ now (dst .exit) ≡ bytesOf mode (now (s .entry)) ++ drop (length (bytesOf mode (now (s .entry)))) (now (dst .entry)) ⌝ }
@@ -208,7 +208,7 @@ fn hash_tag(start: u32, s: &[u8]) -> u32
     }
 }
 
-// The hash `start` taken on over the stored bytes.
+// Extends the hash `start` by the stored bytes.
 pub fn hash_on(start: u32, mode: Mode, s: &[u8]) -> u32
     ensures { λ r. ⌜ r ≡ fnvFrom start (bytesOf mode (now (s .entry))) ⌝ }
 {
@@ -319,7 +319,7 @@ fn same_tag(s: &[u8], stored: &[u8]) -> bool
     }
 }
 
-// Whether the stored bytes are these.
+// Whether s in this mode is stored as the bytes `stored`.
 pub fn same(mode: Mode, s: &[u8], stored: &[u8]) -> bool
     ensures { λ r. ⌜ r ≡ sameBytes (bytesOf mode (now (s .entry))) (now (stored .entry)) ⌝ }
 {

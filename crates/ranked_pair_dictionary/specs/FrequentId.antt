@@ -1,4 +1,4 @@
--- The frequent id, which document 01 calls a lead: its form, its writing and its reading. Assumes nothing.
+-- The frequent id, which stands for the number of a head: its form, its writing and its reading. Assumes nothing.
 use Prim.Native.Nat.{ℕ, zero, suc, _+_, _*_, _/_, _%_, _^_}
 use mathlib.Core.Bool.{cond}
 use mathlib.Core.List.{[], _∷_}
@@ -27,7 +27,7 @@ ofBe v (b ∷ s) = ofBe (v * 256 + b) s
 unfoldable pub frequentId : ℕ → ℕ → Bytes
 frequentId n f = (64 * n + f / 256 ^ n) ∷ be n f
 
--- As few as hold f.
+-- The fewest further bytes that can hold f.
 unfoldable pub furtherBytes : ℕ → ℕ
 furtherBytes f = cond (ltb f (2 ^ 6)) 0 (cond (ltb f (2 ^ 14)) 1 (cond (ltb f (2 ^ 22)) 2 3))
 
@@ -37,7 +37,7 @@ fid f = frequentId (furtherBytes f) f
 
 -- ---- writing, into a buffer of `room` bytes
 
--- 2^30 or more has no form; then the form has to fit.
+-- A value of 2^30 or more has no form. A form must fit the buffer.
 unfoldable pub writeRefusal : ℕ → ℕ → Option Refusal
 writeRefusal value room = cond (leb (2 ^ 30) value) (some HighNumber) (cond (ltb room (length (fid value))) (some ShortBuffer) none)
 
@@ -45,13 +45,13 @@ writeRefusal value room = cond (leb (2 ^ 30) value) (some HighNumber) (cond (ltb
 unfoldable pub writeFidAnswer : ℕ → ℕ → Written
 writeFidAnswer value room = writtenBy (fid value) (writeRefusal value room)
 
--- The form at the buffer's start, the rest untouched; all as found where the writing is refused.
+-- The form at the buffer's start, the rest untouched. If the writing is refused, all bytes are as found.
 unfoldable pub writeFidBuffer : ℕ → Bytes → Bytes
 writeFidBuffer value buffer = placedBy (fid value) buffer (writeRefusal value (length buffer))
 
 -- ---- reading, from the front
 
--- n further bytes from s, behind what the first byte holds, v; cut where s has fewer.
+-- Reads n further bytes from s; v is the value in the first byte. Cut if s has fewer than n.
 unfoldable pub readFurther : ℕ → ℕ → Bytes → FrequentId
 readFurther n v s = cond (leb n (length s)) (Value (ofBe v (take n s)) (n + 1)) (Refused CutForm)
 

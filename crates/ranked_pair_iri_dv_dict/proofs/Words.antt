@@ -1,4 +1,4 @@
--- A word without marks: what the masks say of its bytes, and that passing them changes no head. Assumes nothing.
+-- A word without marks: what the masks say of its bytes. Passing them changes no head. Assumes nothing.
 use Prim.Native.Nat.{ℕ, zero, suc, _+_, _*_, _≤_, _<_}
 use mathlib.Core.Path.{_≡_, refl, sym, ap, _∙_}
 use mathlib.Core.Logic.{inl, inr}

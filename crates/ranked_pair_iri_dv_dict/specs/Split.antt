@@ -17,13 +17,13 @@ isMark c = eqb c 47 || eqb c 35
 abbrev pub Unmarked : Bytes → ℕ → ℕ → Type 0
 Unmarked s b e = (i : ℕ) → b ≤ i → i < e → isMark (getD s i 0) ≡ false
 
--- One byte more in front: a later mark stays the last one, and with none the byte itself may be it.
+-- One byte more in front. A later mark stays the last one; without a later mark the byte itself may be the last one.
 abbrev pub afterMark : Bool → ℕ → ℕ
 afterMark b (suc n) = suc (suc n)
 afterMark true zero = 1
 afterMark false zero = zero
 
--- The length up to and with the last mark, 0 with none.
+-- The length up to and including the last mark; 0 without a mark.
 abbrev pub headLength : Bytes → ℕ
 headLength [] = zero
 headLength (c ∷ cs) = afterMark (isMark c) (headLength cs)
@@ -37,7 +37,7 @@ headFrom (suc n) = Length (suc n)
 unfoldable pub headOf : Bytes → Head
 headOf s = headFrom (headLength s)
 
--- An answer as a number: the length of the head, which is empty where there is none.
+-- An answer as a number: the length of the head. Without a mark the head is empty.
 abbrev pub lengthOf : Head → ℕ
 lengthOf Nothing = 0
 lengthOf (Length n) = n

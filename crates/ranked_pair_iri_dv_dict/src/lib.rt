@@ -17,13 +17,13 @@ fn is_mark(byte: u8) -> bool
     byte == b'/' || byte == b'#'
 }
 
-// In each byte of a word: the bits of which every letter and every digit has one, and a mark none.
+// Two bits in each byte of a word. Every letter and every digit has at least one of them, and a mark has none.
 const NAME_BITS: usize = 0x5050505050505050;
 
-// Added to those bits of a byte, it sets the top bit exactly if one of them is set, and carries into no other byte.
+// Adding this to those two bits sets the top bit of the byte exactly if one of them is set. It never carries into the next byte.
 const TO_TOP: usize = 0x7F7F7F7F7F7F7F7F;
 
-// Whether each of the eight bytes from i on has a bit that no mark has. Some bytes that are no marks, as '-' and '.', have none either.
+// Whether each of the eight bytes from i on has one of those bits, so that none is a mark. Some other bytes have none either, for example '-' and '.'.
 fn has_no_mark(iri: &[u8], i: usize) -> bool
     requires { ⌜ i + 8 ≤ length (now iri) ⌝ }
     ensures { λ r. ⌜ (r ≡ true → Unmarked (now (iri .entry)) i (i + 8)) ⌝ }
@@ -31,7 +31,7 @@ fn has_no_mark(iri: &[u8], i: usize) -> bool
     ((words::word_from(iri, i) & NAME_BITS) + TO_TOP) & TOP_BITS == TOP_BITS
 }
 
-// Past bytes that are no marks, from the end, eight at a time: where the bytes left end.
+// Passes bytes that are no marks, from the end, eight at a time. Answers where the bytes left end.
 fn pass_words(iri: &[u8]) -> usize
     ensures { λ r. ⌜ (r ≤ length (now (iri .entry))) × Unmarked (now (iri .entry)) r (length (now (iri .entry))) ⌝ }
 {
@@ -42,7 +42,7 @@ fn pass_words(iri: &[u8]) -> usize
     pos
 }
 
-// From the end, so that the first mark met is the last one.
+// Searches from the end: the first mark that it meets is the last one of the IRI.
 pub fn rfind_hashslash_plus(iri: &[u8]) -> Head
     ensures { λ r. ⌜ r ≡ headOf (now (iri .entry)) ⌝ }
 {

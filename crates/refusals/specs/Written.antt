@@ -13,7 +13,7 @@ abbrev pub writtenBy : Bytes → Option Refusal → Written
 writtenBy form none = Length (length form)
 writtenBy form (some why) = Refused why
 
--- The form at the buffer's start and the rest as found; with a refusal, all as found.
+-- The buffer afterwards: the form at its start and the rest as found. With a refusal all bytes are as found.
 abbrev pub placedBy : Bytes → Bytes → Option Refusal → Bytes
 placedBy form buffer none = form ++ drop (length form) buffer
 placedBy form buffer (some why) = buffer

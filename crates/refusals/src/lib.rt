@@ -1,4 +1,4 @@
-// Document 01's table of refusals, the one place that numbers them, and the answers that several entries share.
+// Document 01's table of refusals. Only this crate numbers them. Two answers that several entries share.
 ghost use mathlib.Core.Path.{_≡_};
 ghost use Rattle.refusals.specs.Numbers.{refusalNumber};
 
@@ -18,13 +18,13 @@ pub enum Refusal {
     CutForm,
 }
 
-// Whether what was checked is legal, or why not.
+// What a check answers: legal, or why not.
 pub enum Checked {
     Legal,
     Illegal(Refusal),
 }
 
-// The length written, or why nothing was.
+// The length written, or why nothing was written.
 pub enum Written {
     Length(usize),
     Refused(Refusal),

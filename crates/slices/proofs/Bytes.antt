@@ -1,4 +1,4 @@
--- The test of equality says what equality is, both ways. Assumes nothing.
+-- `sameBytes` answers true exactly if both lists are equal. Assumes nothing.
 use Prim.Native.Nat.{_<_}
 use mathlib.Core.Path.{_≡_, refl, sym}
 use mathlib.Core.Bool.{true, false, not, false≢true}

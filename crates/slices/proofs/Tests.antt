@@ -1,4 +1,4 @@
--- Tests with their equations in hand; what conjunctions and chains of refusals say. Assumes nothing.
+-- A test with the equation of its answer; what follows from conjunctions, disjunctions and chains of refusals. Assumes nothing.
 use Prim.Native.Nat.{ℕ}
 use mathlib.Core.Path.{_≡_, refl, sym}
 use mathlib.Core.Logic.{_⊎_, inl, inr}

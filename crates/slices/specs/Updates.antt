@@ -3,6 +3,6 @@ use Prim.Native.Nat.{ℕ}
 use mathlib.Core.Bool.{cond}
 use lib.Dec.{eqb}
 
--- f, but a at k.
+-- f, with the value a at k.
 abbrev pub upd : {A : Type 0} → (ℕ → A) → ℕ → A → ℕ → A
 upd f k a j = cond (eqb k j) a (f j)

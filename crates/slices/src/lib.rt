@@ -1,1 +1,1 @@
-// What every layer says of lists of bytes: definitions in specs/, laws in proofs/. It holds no code.
+// Lists of bytes, for every layer: definitions in specs/, laws in proofs/. This crate has no code.

@@ -1,4 +1,4 @@
--- The answer and the buffer that each way through packing and unpacking comes to. Assumes nothing.
+-- The answer and the buffer at each end of packing and unpacking. Assumes nothing.
 use Prim.Native.Nat.{ℕ, _+_, _≤_, _<_}
 use mathlib.Core.Path.{_≡_, refl}
 use mathlib.Core.Bool.{true, false}

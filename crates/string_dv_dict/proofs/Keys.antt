@@ -1,4 +1,4 @@
--- A packed form is the tag as it stands in front of its text, and the text. Assumes nothing.
+-- A packed form is the stored tag, followed by the text. Assumes nothing.
 use Prim.Native.Nat.{_+_, _≤_}
 use mathlib.Core.Path.{_≡_, sym, ap}
 use mathlib.Core.Logic.{inl, inr}

@@ -1,4 +1,4 @@
--- What a form that was split looks like, and when it is one that packing makes. Assumes nothing.
+-- The shape of a form that was split, and when packing makes such a form. Assumes nothing.
 use Prim.Native.Nat.{ℕ, suc, _+_, _-_, _<_, _≤_}
 use mathlib.Core.Path.{_≡_, refl, sym, ap, subst, _∙_}
 use mathlib.Core.Logic.{_≢_, inl, inr}

@@ -1,4 +1,4 @@
--- Two runs of stores, one behind the other from a buffer's start, leave both there and the rest as found. Assumes nothing.
+-- Two runs of stores from a buffer's start, one behind the other: both stand there, and the rest is as found. Assumes nothing.
 use Prim.Native.Nat.{_+_, _≤_}
 use mathlib.Core.Path.{_≡_, sym, _∙_}
 use mathlib.Core.List.{_++_}

@@ -1,4 +1,4 @@
--- What packing and unpacking answer and leave in the buffer, refusals in document 01's order. Assumes nothing.
+-- What packing and unpacking answer and leave in the buffer. The refusals are in document 01's order. Assumes nothing.
 use Prim.Native.Nat.{ℕ, _+_}
 use mathlib.Core.Bool.{not, cond}
 use mathlib.Core.List.{_++_}

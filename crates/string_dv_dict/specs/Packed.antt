@@ -31,7 +31,7 @@ pub record LegalTagged (text tag : Bytes) : Type 0 where
   pub tag-is : isText tag ≡ true
   pub tagged : isEmpty tag ≡ false
 
--- ---- the parts that a form can only have
+-- ---- the only possible parts of a form
 
 -- The bytes before the first '>', and those behind it.
 unfoldable pub before : Bytes → Bytes
@@ -46,7 +46,7 @@ behind (c ∷ s) = cond (eqb c 62) s (behind s)
 abbrev pub unescape : ℕ → ℕ
 unescape c = cond (eqb c 97) 62 92
 
--- '\a' as '>', '\\' as '\'; true: after a '\'.
+-- '\a' becomes '>', and '\\' becomes '\'. The first argument is true behind a '\'.
 unfoldable pub unescaped : Bool → Bytes → Bytes
 unescaped b [] = []
 unescaped true (c ∷ s) = unescape c ∷ unescaped false s
@@ -64,6 +64,6 @@ abbrev pub isLegal : Option Refusal → Bool
 isLegal none = true
 isLegal (some why) = false
 
--- Accepted is exactly what packing makes of a legal text and tag.
+-- A form is accepted if its only possible parts are legal and pack to the same bytes.
 unfoldable pub accepted : Bytes → Bool
 accepted form = isLegal (pairRefusal (textIn form) (tagIn form)) && sameBytes (packed (textIn form) (tagIn form)) form

@@ -1,4 +1,4 @@
--- What the functions below packing and unpacking find. Assumes nothing.
+-- What the inner functions of packing and unpacking find. Assumes nothing.
 use Prim.Native.Nat.{ℕ, zero, _+_, _≤_}
 use mathlib.Core.Path.{_≡_}
 use mathlib.Core.Bool.{false, cond}
@@ -30,7 +30,7 @@ scanned Bad = zero
 
 -- ---- where the parts of a form lie
 
--- Behind 0: by the first '>', and the scan of what stands before it.
+-- A long form: `end` is where its first '>' stands, and the scan is that of the bytes before it.
 abbrev pub longBy : ℕ → Scan → Form
 longBy end (Whole n) = Long end n
 longBy end (Escape n) = Cut
@@ -39,12 +39,12 @@ longBy end Bad = Cut
 unfoldable pub longSplit : Bytes → Form
 longSplit s = cond (ltb (length (before s)) (length s)) (longBy (length (before s)) (scanFrom (Whole 0) (before s))) Cut
 
--- By shape alone: a tag as long as the first byte says, or behind 0 an escaped tag up to the first '>'.
+-- By shape alone. A first byte 0: an escaped tag up to the first '>'. Another first byte: the length of the tag.
 unfoldable pub splitOf : Bytes → Form
 splitOf [] = Cut
 splitOf (n ∷ s) = cond (eqb n 0) (longSplit s) (cond (leb n (length s)) (Short n) Cut)
 
--- The same where packing makes the form, Cut where it does not.
+-- The same if packing makes the form, else Cut.
 unfoldable pub formOf : Bytes → Form
 formOf form = cond (accepted form) (splitOf form) Cut
 

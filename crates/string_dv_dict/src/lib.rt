@@ -23,21 +23,21 @@ pub enum Unpacked {
     Refused(Refusal),
 }
 
-// The bytes of an escaped tag so far: how many bytes of the tag they are, and whether a '\' still wants its second byte.
+// The bytes of an escaped tag so far: how many bytes of the tag they stand for. Escape: a '\' still needs its second byte. Bad: packing never writes them.
 enum Scan {
     Whole(usize),
     Escape(usize),
     Bad,
 }
 
-// Where a packed form's parts lie. Short: the tag's length. Long: how long the escaped tag is, and the tag itself.
+// Where the parts of a packed form lie. Short: the tag's length. Long: the length of the escaped tag, then that of the tag itself.
 pub enum Form {
     Short(usize),
     Long(usize, usize),
     Cut,
 }
 
-// Refusals 5, 6, 7 of a text and a tag.
+// Checks a text and a tag for refusals 5, 6 and 7, in this order.
 pub fn check_pair(text: &[u8], tag: &[u8]) -> Checked
     ensures { λ r. ⌜ r ≡ checkedBy (pairRefusal (now (text .entry)) (now (tag .entry))) ⌝ }
 {
@@ -139,7 +139,7 @@ fn scan_tag(s: &[u8]) -> Scan
     state
 }
 
-// A form behind its 0.
+// Splits a long form; s begins behind its 0.
 fn split_long(s: &[u8]) -> Form
     ensures { λ r. ⌜ r ≡ longSplit (now (s .entry)) ⌝ }
 {
@@ -153,7 +153,7 @@ fn split_long(s: &[u8]) -> Form
     Form::Long(end, n)
 }
 
-// Where the parts of a form would lie, by its shape alone: nothing is said of whether they are text, or which form packing would choose.
+// Where the parts of a form would lie, by its shape alone. It does not check that they are text, or that packing would choose this form.
 pub fn split(form: &[u8]) -> Form
     ensures { λ r. ⌜ r ≡ splitOf (now (form .entry)) ⌝ }
 {
@@ -205,7 +205,7 @@ fn check_long(form: &[u8], end: usize, n: usize) -> Form
     Form::Long(end, n)
 }
 
-// Where the parts of a packed form lie; Cut where packing makes no such form.
+// Where the parts of a packed form lie; Cut if packing makes no such form.
 fn split_packed(form: &[u8]) -> Form
     ensures { λ r. ⌜ r ≡ formOf (now (form .entry)) ⌝ }
 {
@@ -223,7 +223,7 @@ fn unescape_byte(c: u8) -> u8
     if c == b'a' { b'>' } else { b'\\' }
 }
 
-// Writes an escaped tag at `start`, its escapes undone.
+// Undoes the escapes of a tag and writes it at `start`.
 pub fn write_unescaped(s: &[u8], dst: &mut [u8], start: usize)
     requires { ⌜ start + length (unescaped false (now s)) ≤ length (now dst) ⌝ }
     ensures { λ _. ⌜ now (dst .exit) ≡ sets (now (dst .entry)) start (unescaped false (now (s .entry))) ⌝ }

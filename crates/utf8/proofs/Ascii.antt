@@ -1,4 +1,4 @@
--- Plain bytes: what the mask of the top bits says of the bytes of a word, and that passing them changes nothing. Assumes nothing.
+-- ASCII bytes: what the mask of the top bits says of the bytes of a word. Passing ASCII bytes changes nothing. Assumes nothing.
 use Prim.Native.Nat.{ℕ, zero, suc, _+_, _*_, _/_, _%_, _≤_, _<_}
 use mathlib.Core.Path.{_≡_, refl, sym, _∙_}
 use mathlib.Core.Logic.{inl, inr}

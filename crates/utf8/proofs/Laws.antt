@@ -1,4 +1,4 @@
--- Text stays text, and what is none stays none, where some characters of one byte are written as two. Assumes nothing.
+-- Some characters of one byte may be written as two such characters: the result is text exactly if the bytes were. Assumes nothing.
 use Prim.Native.Nat.{ℕ, _≤_}
 use mathlib.Core.Path.{_≡_, refl, ap, _∙_}
 use mathlib.Core.Logic.{inl, inr}

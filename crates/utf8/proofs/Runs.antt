@@ -1,4 +1,4 @@
--- Characters of several bytes whose first byte bounds no tail byte further: passing one changes nothing. Assumes nothing.
+-- Passing one character of two or three bytes changes nothing, if its first byte allows all tail bytes. Assumes nothing.
 use Prim.Native.Nat.{ℕ, zero, suc, _+_, _-_, _≤_}
 use mathlib.Core.Path.{_≡_, sym, _∙_}
 use mathlib.Core.Bool.{true, _&&_}

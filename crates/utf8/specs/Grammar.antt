@@ -1,4 +1,4 @@
--- UTF-8 as RFC 3629, section 4, has it: a constructor for each alternative of the grammar. Assumes nothing.
+-- UTF-8 by RFC 3629, section 4: a constructor for each alternative of the grammar. Assumes nothing.
 use Prim.Native.Nat.{ℕ, _≤_}
 use mathlib.Core.List.{[], _∷_, _++_}
 use Rattle.slices.specs.Bytes.{Bytes}

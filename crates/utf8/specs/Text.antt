@@ -1,4 +1,4 @@
--- The test for UTF-8, one byte at a time. That it accepts what the grammar derives, and nothing else, is proved in proofs/Grammar.antt.
+-- The test for UTF-8, one byte at a time. proofs/Grammar.antt proves that it accepts exactly what the grammar derives.
 -- Assumes nothing.
 use Prim.Native.Nat.{ℕ, _-_}
 use mathlib.Core.Bool.{Bool, false, cond}
@@ -9,7 +9,7 @@ pub use Rattle.slices.specs.Ranges.{within}
 use Rattle.utf8.specs.declared.Step.{Step}
 use Rattle.utf8.specs.declared.Step.the-variants.{Due, Bad}
 
--- `Due n lo hi`: n tail bytes of a character are due, the next one from lo to hi. Between two characters none are.
+-- `Due n lo hi`: n tail bytes of a character are due, and the next one must be from lo to hi. Between two characters none is due.
 abbrev pub charStart : Step
 charStart = Due 0 0x80 0xBF
 
@@ -35,7 +35,7 @@ abbrev pub noneDue : Step → Bool
 noneDue Bad = false
 noneDue (Due n lo hi) = eqb n 0
 
--- The bytes end the character that has begun, and are text after it.
+-- The bytes complete the character that has begun, and what follows it is text.
 abbrev pub textFrom : Step → Bytes → Bool
 textFrom x [] = noneDue x
 textFrom x (b ∷ s) = textFrom (after x b) s

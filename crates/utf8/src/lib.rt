@@ -1,4 +1,4 @@
-// Whether a run of bytes is UTF-8, as RFC 3629 has it: no surrogate, nothing above U+10FFFF, no character written longer than it need be.
+// Whether a run of bytes is UTF-8 by RFC 3629: no surrogates, nothing above U+10FFFF, shortest forms only.
 use words::TOP_BITS;
 ghost use mathlib.Core.Path.{_≡_};
 ghost use Prim.Native.Nat.{_+_, _≤_, _<_};
@@ -8,9 +8,9 @@ ghost use Rattle.utf8.specs.Passing.{ascii, isTwo, isThree, Passed, Ends
 
 // What the bytes read so far ask of the next one.
 pub enum Step {
-    // How many tail bytes of a character are still due, and the least and the greatest that the next one may be.
+    // How many tail bytes of a character are still due, and the least and the greatest value of the next one.
     Due(usize, u8, u8),
-    // The bytes are the beginning of no text.
+    // No text begins with these bytes.
     Bad,
 }
 
@@ -39,7 +39,7 @@ fn first(b: u8) -> Step
     }
 }
 
-// One byte more, after bytes that leave `left` tail bytes due, the next from `lo` to `hi`.
+// Takes one more byte b. Before it `left` tail bytes are due, and the next one must be from `lo` to `hi`.
 fn next(left: usize, lo: u8, hi: u8, b: u8) -> Step
     ensures { λ r. ⌜ r ≡ after (Step.Due left lo hi) b ⌝ }
 {
@@ -55,13 +55,13 @@ fn next(left: usize, lo: u8, hi: u8, b: u8) -> Step
     Step::Due(left - 1, 0x80, 0xBF)
 }
 
-// Where a character ends. Bad: there is none.
+// Where a character ends. Bad: the bytes are no character.
 pub enum End {
     At(usize),
     Bad,
 }
 
-// The character that begins at i.
+// Where the character that begins at i ends.
 fn char_end(s: &[u8], i: usize) -> End
     requires { ⌜ i < length (now s) ⌝ }
     ensures { λ r. ⌜ Ends (now (s .entry)) i r ⌝ }
@@ -85,7 +85,7 @@ fn char_end(s: &[u8], i: usize) -> End
     End::At(k)
 }
 
-// Whether the eight bytes from i on are ASCII. An ASCII byte, a character by itself, has no top bit.
+// Whether the eight bytes from i on are ASCII. The top bit of an ASCII byte is 0.
 fn is_ascii(s: &[u8], i: usize) -> bool
     requires { ⌜ i + 8 ≤ length (now s) ⌝ }
     ensures { λ r. ⌜ r ≡ ascii (take 8 (drop i (now (s .entry)))) ⌝ }
@@ -93,7 +93,7 @@ fn is_ascii(s: &[u8], i: usize) -> bool
     words::word_from(s, i) & TOP_BITS == 0
 }
 
-// Past ASCII bytes from i on, eight at a time. The last eight may begin before what is left.
+// Passes ASCII bytes from i on, eight at a time. The last eight may begin before the bytes that are left.
 fn pass_words(s: &[u8], i: usize) -> usize
     requires { ⌜ i ≤ length (now s) ⌝ }
     ensures { λ r. ⌜ Passed (now (s .entry)) i r ⌝ }
@@ -112,7 +112,7 @@ fn pass_words(s: &[u8], i: usize) -> usize
     if is_ascii(s, n - 8) { n } else { k }
 }
 
-// Past ASCII bytes from i on, one at a time.
+// Passes ASCII bytes from i on, one at a time.
 fn pass_bytes(s: &[u8], i: usize) -> usize
     requires { ⌜ i ≤ length (now s) ⌝ }
     ensures { λ r. ⌜ Passed (now (s .entry)) i r ⌝ }
@@ -127,7 +127,7 @@ fn pass_bytes(s: &[u8], i: usize) -> usize
     k
 }
 
-// Past ASCII bytes from i on. Where the next byte is not ASCII no word is looked at: in many scripts one such character follows another.
+// Passes ASCII bytes from i on. If the next byte is not ASCII, it reads no word: in many scripts one such character follows another.
 fn pass_ascii(s: &[u8], i: usize) -> usize
     requires { ⌜ i ≤ length (now s) ⌝ }
     ensures { λ r. ⌜ Passed (now (s .entry)) i r ⌝ }
@@ -154,14 +154,14 @@ fn is_two(a: u8, b: u8) -> bool
     is_within(0xC2, 0xDF, a) && is_within(0x80, 0xBF, b)
 }
 
-// Whether three bytes are a character, by a first byte from E1 to EC, which bounds no tail byte further.
+// Whether three bytes are a character with a first byte from E1 to EC. These first bytes allow all tail bytes from 80 to BF.
 fn is_three(a: u8, b: u8, c: u8) -> bool
     ensures { λ r. ⌜ r ≡ isThree a b c ⌝ }
 {
     is_within(0xE1, 0xEC, a) && is_within(0x80, 0xBF, b) && is_within(0x80, 0xBF, c)
 }
 
-// Past characters of two bytes from i on.
+// Passes characters of two bytes from i on.
 fn pass_twos(s: &[u8], i: usize) -> usize
     requires { ⌜ i ≤ length (now s) ⌝ }
     ensures { λ r. ⌜ Passed (now (s .entry)) i r ⌝ }
@@ -177,7 +177,7 @@ fn pass_twos(s: &[u8], i: usize) -> usize
     k
 }
 
-// Past characters of three bytes from i on, those with a first byte from E1 to EC.
+// Passes characters of three bytes from i on, if their first byte is from E1 to EC.
 fn pass_threes(s: &[u8], i: usize) -> usize
     requires { ⌜ i ≤ length (now s) ⌝ }
     ensures { λ r. ⌜ Passed (now (s .entry)) i r ⌝ }

@@ -1,4 +1,4 @@
-// Frequent ids (document 01: leads) at every boundary, written and read.
+// Frequent ids at every boundary, written and read.
 use crate::show;
 
 fn write(value: u64) {
@@ -40,7 +40,7 @@ fn written() {
     write(18446744073709551615);
 }
 
-// The buffer is one byte too short; 2^30 is refused as such all the same.
+// The buffers are too short. 2^30 is still refused as a high number.
 fn short() {
     write_short(63, &mut []);
     write_short(64, &mut [0xAA]);
@@ -58,7 +58,7 @@ fn read_back() {
     read(b"\xFF\xFF\xFF\xFF");
 }
 
-// Longer than needed: read by value.
+// Forms longer than needed are read by value.
 fn longer() {
     read(b"\x40\x3F");
     read(b"\x80\x00\x01");

@@ -1,5 +1,5 @@
 // Runs published vectors and boundary cases through the exported leaf entries and the hash, and prints what they answer.
-// What is right stands in the file stdout.
+// The file stdout has the right output.
 mod hash;
 mod ids;
 mod packing;

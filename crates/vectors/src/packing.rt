@@ -1,7 +1,7 @@
 // Packed tagged strings: packed and unpacked, at every limit and with every refusal.
 use crate::show;
 
-// A packed form, and the hash of the buffer that it was written into, which was all AA.
+// Packs, and prints the answer and the hash of the buffer. The buffer is filled with AA before.
 fn pack(name: &[u8], text: &[u8], tag: &[u8], buffer: &mut [u8]) {
     io::write_all(1, b"pack ");
     show::label(name);

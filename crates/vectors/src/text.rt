@@ -56,7 +56,7 @@ fn surrogates_and_above() {
     check(b"a tail byte first", b"\x80");
 }
 
-// Sequences cut at every length, and followed by what is no tail byte.
+// Sequences cut at every length, also with a letter before or behind.
 fn cut() {
     check(b"one of two bytes", b"\xC3");
     check(b"one of three bytes", b"\xE2");

@@ -1,4 +1,4 @@
--- Little-endian numbers in a list of bytes: words of eight bytes and quads of four, each at an index that counts them. Assumes nothing.
+-- Little-endian numbers in a list of bytes: words of eight bytes and quads of four. An index counts words or quads. Assumes nothing.
 use Prim.Native.Nat.{ℕ, zero, suc, _+_, _*_, _/_, _%_}
 use mathlib.Core.List.{[], _∷_}
 use lib.ListN.{getD}
@@ -10,7 +10,7 @@ unfoldable pub le : ℕ → ℕ → Bytes
 le zero x = []
 le (suc n) x = x % 256 ∷ le n (x / 256)
 
--- The number that the n bytes from b on are.
+-- The number in the n bytes from b on.
 unfoldable pub leAt : ℕ → Bytes → ℕ → ℕ
 leAt zero s b = 0
 leAt (suc n) s b = getD s b 0 + 256 * leAt n s (suc b)

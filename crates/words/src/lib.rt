@@ -1,4 +1,4 @@
-// Little-endian numbers in a slice of bytes: words of eight bytes, quads of four, at an index that counts them; words from any byte on.
+// Little-endian numbers in a slice of bytes. A word has eight bytes, a quad four. An index counts words or quads; `word_from` reads from any byte on.
 // The sums of bytes below compile to one load or store.
 ghost use mathlib.Core.Path.{_≡_};
 ghost use Prim.Native.Nat.{_+_, _*_, _≤_, _<_};
