@@ -1,5 +1,5 @@
-//! Document 01's search and nothing else: what no dictionary can do without. It has no check of its memory, of its sizes or of its arguments,
-//! and none of the text. Heads have numbers below 2^14, tags fewer than 128 bytes.
+//! Document 01's search and nothing else: what every dictionary needs. It checks neither its memory, its sizes, its arguments nor the text.
+//! It expects head numbers below 2^14 and tags of fewer than 128 bytes.
 use crate::dictionaries::{Dictionary, SIZES};
 use crate::names::Name;
 use crate::seats::{fnv_from, FNV_START};

@@ -1,6 +1,6 @@
 //! Measures the library, the original, HashMap with a Vec, the bare search and the hash alone on the same names.
-//! Commands: time ROUNDS; alone ROUNDS, the library without the others between; count, under callgrind; counts, which prints the counts given
-//! as lines "contender operation kind count".
+//! Commands: `time ROUNDS` measures all; `alone ROUNDS` measures the library without the others between; `count` runs under callgrind;
+//! `counts` reads lines "contender operation kind count" and prints the table of counts.
 mod bare;
 mod dictionaries;
 mod counts;

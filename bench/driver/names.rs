@@ -1,4 +1,4 @@
-//! Names shaped like a plant's, from a fixed seed.
+//! Names like those of an industrial plant, from a fixed seed.
 use crate::random::Random;
 
 pub const KINDS: [&str; 4] = ["IRI", "plain", "tagged", "typed"];

@@ -1,4 +1,4 @@
-//! What is done with each dictionary, and the hash alone: of names one beside the other, and of names in turn.
+//! What is done with each dictionary; and the hash alone, of several names at once and of names in turn.
 use crate::dictionaries::Dictionary;
 use crate::names::{Input, Name, COUNTS};
 use std::hint::black_box;
