@@ -1,3 +1,4 @@
+-- The definitions of this crate, by subject.
 pub mod Pages
 pub mod Spots
 pub mod Tables

@@ -22,7 +22,7 @@ pub record CurrentPage (sp : ℕ → Space) (W : ℕ → ℕ) (d : ℕ) : Type 0
   pub position : suc (positionOf (W (pageAt (currentOf W d)))) ≡ sp d .taken
 
 pub record PagesAt (s : Sizes) (sp : ℕ → Space) (W : ℕ → ℕ) : Type 0 where
-  -- the untaken pages are those from one number up, and their words are 0
+  -- all pages from one number up are untaken, and their words are 0
   pub lowest : W untakenAt ≡ allPages sp
   pub room : allPages sp ≤ s .n
   pub owned : (i : ℕ) → i < allPages sp → Owned s (W (pageAt i))

@@ -1,3 +1,4 @@
+-- The definitions of this crate, by subject.
 pub mod Written
 pub mod Store
 pub mod Reading

@@ -53,7 +53,7 @@ pub record DictAt (s : Sizes) (pages lists : Bytes) (d : ℕ) (es : Entries) (co
   pub held : HoldsEntries s d pages lists es
   pub counted : wordAt lists (countAt d) ≡ count
   pub most : count ≤ s .e
-  -- an entry is in use exactly below the count
+  -- the numbers in use are exactly those below the count
   pub in-use : (i : ℕ) → i < count → (key : Bytes) × (es i ≡ some key)
   pub past : (i : ℕ) → count ≤ i → es i ≡ none
   -- each lies in the used part of a page of this dictionary, before the next one

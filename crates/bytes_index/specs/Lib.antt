@@ -1,3 +1,4 @@
+-- The definitions of this crate, by subject.
 pub mod Place
 pub mod Filled
 pub mod Entries

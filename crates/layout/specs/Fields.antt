@@ -1,4 +1,4 @@
--- Where each field of `lists` lies: words of eight bytes, little endian, by their index. Zero means none everywhere. Assumes nothing.
+-- Where each field of `lists` lies: words of eight bytes, little endian, by their index. With no entry every field behind the sizes is zero. Assumes nothing.
 --   word 0             the format
 --   1 to 5             the sizes
 --   6                  the lowest untaken page

@@ -35,7 +35,7 @@ abbrev pub start : Blocks → ℕ → ℕ → ℕ
 start b k zero = zero
 start b k (suc l) = b .blockOf k l + l
 
--- The block of the kind k's next number. If a local block begins with it, a search gives the first free block below B. Else its local block has one.
+-- The block of the kind k's next number. If a local block begins with it, a search gives the first free block below B. Else it is the block of its local block.
 unfoldable pub pick : Sizes → Blocks → ℕ → Option ℕ
 pick s b k =
     cond (eqb (b .next k % 2 ^ s .w) zero)

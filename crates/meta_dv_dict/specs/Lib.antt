@@ -1,3 +1,4 @@
+-- The definitions of this crate, by subject.
 pub mod Blocks
 pub mod Rule
 pub mod Sound

@@ -1,4 +1,4 @@
-// Document 01's table of refusals. Only this crate numbers them. Two answers that several entries share.
+// Document 01's table of refusals, and two answers that several entries share. Only this crate numbers the refusals.
 ghost use mathlib.Core.Path.{_≡_};
 ghost use Rattle.refusals.specs.Numbers.{refusalNumber};
 

@@ -6,7 +6,7 @@ ghost use lib.ListN.{length, take, drop};
 ghost use Rattle.utf8.specs.Text.{within, firstOf, after, isText};
 ghost use Rattle.utf8.specs.Passing.{ascii, isTwo, isThree, Passed, Ends};
 
-// What the bytes read so far ask of the next one.
+// What the next byte must be, by the bytes read so far.
 pub enum Step {
     // How many tail bytes of a character are still due, and the least and the greatest value of the next one.
     Due(usize, u8, u8),

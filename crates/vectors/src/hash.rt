@@ -1,4 +1,4 @@
-// FNV-1a of 32 bits: values of the authors' own test list.
+// FNV-1a of 32 bits: values from the test list of its authors.
 use crate::show;
 
 fn check(s: &[u8]) {

@@ -1,5 +1,5 @@
 // Little-endian numbers in a slice of bytes. A word has eight bytes, a quad four. An index counts words or quads; `word_from` reads from any byte on.
-// The sums of bytes below compile to one load or store.
+// Each read below compiles to one load, each write to one store.
 ghost use mathlib.Core.Path.{_≡_};
 ghost use Prim.Native.Nat.{_+_, _*_, _≤_, _<_};
 ghost use lib.ListN.{length};
@@ -70,7 +70,7 @@ pub fn quad_at(s: &[u8], i: usize) -> usize
     wide(s[b]) + wide(s[b + 1]) * 256 + wide(s[b + 2]) * 65536 + wide(s[b + 3]) * 16777216
 }
 
-// Puts x at quad index i: its low 32 bits.
+// Puts the low 32 bits of x at quad index i.
 pub fn put_quad(s: &mut [u8], i: usize, x: usize)
     requires { ⌜ 4 * i + 4 ≤ length (now s) ⌝ }
     ensures { λ _. ⌜ now (s .exit) ≡ setQuad (now (s .entry)) i x ⌝ }
