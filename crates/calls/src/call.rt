@@ -1,7 +1,7 @@
-// The calls: each is made and printed with its answer, on one line.
+// The calls. Each function makes one call and prints it with its answer, on one line.
 use crate::show;
 
-// What the memory lent holds, as two hashes.
+// Two hashes of the lent memory.
 struct Hashes {
     pages: u32,
     lists: u32,
@@ -86,7 +86,7 @@ pub fn read(pages: &[u8], lists: &[u8], number: u64, buffer: &mut [u8]) {
     show::end();
 }
 
-// 1 if the number's name is read back, which is this kind, a first part of n bytes, and both parts; else 0.
+// 1 if the number reads back as this name, else 0: the kind, `both` parts one after the other, the first of n bytes.
 pub fn reads_back(
     pages: &[u8],
     lists: &[u8],
@@ -113,7 +113,7 @@ pub fn count(pages: &[u8], lists: &[u8], kind: u64) {
     show::end();
 }
 
-// The bytes from j on and from k on.
+// Prints the pages from j on and the lists from k on.
 pub fn beyond(pages: &[u8], j: usize, lists: &[u8], k: usize) {
     if j <= pages.len() && k <= lists.len() {
         show::text(b"beyond:");

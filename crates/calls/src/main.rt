@@ -1,5 +1,5 @@
-// Makes the calls that its input lists on the exported entries open, add, find, read and count, and prints each with its answer.
-// The files stdin and stdout are made by tools/expected_calls.py, which has the answers from document 01 alone.
+// Makes the calls that its input lists, on the exported entries open, add, find, read and count. Prints each with its answer.
+// tools/expected_calls.py makes the files stdin and stdout. It has the answers from document 01 alone.
 mod call;
 mod run;
 mod script;

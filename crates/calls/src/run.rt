@@ -1,26 +1,26 @@
-// A line of the input becomes a call. Its first character says which, and words follow, with a space between two. P and L say how many
-// bytes of the pages and of the lists are lent, NAME is a kind and two parts.
+// Makes a call from each line of the input. The first character says which call. Words follow, with a space between two. P and L say how
+// many bytes of the pages and of the lists are lent. NAME is a kind and two parts.
 //   o P L SIZE SIZE SIZE SIZE SIZE   open
 //   a P L NAME                       add
 //   f P L NAME                       find
 //   r P L NUMBER LENGTH              read, into a buffer of AA of that length
 //   c P L KIND                       count
-//   b P L FROM FROM                  no call: what is lent of the pages and of the lists from there on
-//   A P L NAME, C P L KIND           add and count, of which the answer alone is printed, and no line end
-//   q P L NAME                       add, of which nothing is printed
-//   = P L NAME NUMBER                read, of which nothing is printed: one more is right if the number has that name
-//   n TEXT                           the text and how many were right; none is from here on
-//   m BYTE                           all the memory is that byte
-//   t TEXT                           the text, and no line end
-//   -- TEXT                          a title: the line as it is
-// and an empty line is a line end.
+//   b P L FROM FROM                  no call: prints the lent pages and the lent lists from there on
+//   A P L NAME, C P L KIND           add and count: prints only the answer, and no line end
+//   q P L NAME                       add: prints nothing
+//   = P L NAME NUMBER                read: prints nothing, and counts one more right if the number has that name
+//   n TEXT                           prints the text and how many were right, and counts from 0 again
+//   m BYTE                           fills all the memory with that byte
+//   t TEXT                           prints the text, and no line end
+//   -- TEXT                          a title: prints the line as it is
+// An empty line prints a line end.
 use crate::call;
 use crate::script;
 use crate::show;
 ghost use Prim.Native.Nat.{_≤_};
 ghost use lib.ListN.{length};
 
-// The memory of the lists of calls, of which a call is lent a part.
+// The memory of all calls. Each call is lent a part of it.
 pub type Pages = [u8; 49156];
 
 pub type Lists = [u8; 11088];
@@ -89,7 +89,7 @@ fn name<'a>(
     }
 }
 
-// A call with a name whose parts stand one behind the other; the first has n bytes. Gives how many more are right.
+// A call with a name. Its parts stand one behind the other, and the first has n bytes. Returns how many more are right.
 fn split(
     op: u8,
     number: u64,
@@ -122,7 +122,7 @@ fn named(op: u8, s: &[u8], i: usize, pages: &mut [u8], lists: &mut [u8]) -> u64
     split(op, number.value, kind.value, n, &both[..m], pages, lists)
 }
 
-// A line without a name, of which the words from i on are left.
+// A line without a name. Its words before i are read already.
 fn numbers(op: u8, s: &[u8], i: usize, pages: &[u8], lists: &[u8])
     requires { ⌜ i ≤ length (now s) ⌝ }
 {
@@ -140,7 +140,7 @@ fn numbers(op: u8, s: &[u8], i: usize, pages: &[u8], lists: &[u8])
     }
 }
 
-// A line with the memory that it is lent, of which the words from i on are left.
+// A line with the memory that is lent to it. Its words before i are read already.
 fn call_in(op: u8, s: &[u8], i: usize, pages: &mut [u8], lists: &mut [u8]) -> u64
     requires { ⌜ i ≤ length (now s) ⌝ }
 {
@@ -157,7 +157,7 @@ fn call_in(op: u8, s: &[u8], i: usize, pages: &mut [u8], lists: &mut [u8]) -> u6
     }
 }
 
-// A line that is lent memory.
+// A line that has P and L: it is lent memory.
 fn lent(op: u8, s: &[u8], pages: &mut [u8], lists: &mut [u8]) -> u64
     requires { ⌜ 2 ≤ length (now s) ⌝ }
 {
@@ -180,7 +180,7 @@ fn fill(byte: u64, pages: &mut Pages, lists: &mut Lists) {
     }
 }
 
-// One line. How many are right before it goes in, how many behind it comes out.
+// Runs one line. `right` is how many were right before it. Returns how many are right after it.
 fn line(s: &[u8], right: u64, pages: &mut Pages, lists: &mut Lists) -> u64 {
     if s.len() < 2 {
         show::end();
@@ -211,7 +211,7 @@ fn line(s: &[u8], right: u64, pages: &mut Pages, lists: &mut Lists) -> u64 {
     }
 }
 
-// The lines, one after the other.
+// Runs the lines, one after the other.
 pub fn run(s: &[u8], pages: &mut Pages, lists: &mut Lists) {
     let mut right = 0;
     let mut i = 0;

@@ -1,18 +1,18 @@
 // The words of a line: numbers, and the parts of a name.
-// A number is written in hexadecimal, of 16 digits at the most.
-// A part is written as its bytes, two digits each. Behind '*' it is said how often a byte stands, and a '.' ends that number where more
-// bytes follow: 612f78*f9e, 68*c8.2f68*c8. A part of no bytes is '-'.
+// A number is written in hexadecimal, with at most 16 digits.
+// A part is written as its bytes, two digits each. A '*' and a number behind a byte say how often it is repeated. A '.' ends that number if
+// more bytes follow: 612f78*f9e, 68*c8.2f68*c8. A part of no bytes is '-'.
 ghost use Prim.Native.Nat.{_≤_, _<_};
 ghost use mathlib.Core.Path.{_≡_};
 ghost use lib.ListN.{length};
 
-// What a word says, and where the next word begins.
+// The value of a word, and where the next word begins.
 pub struct Word {
     pub value: u64,
     pub end: usize,
 }
 
-// A byte that stands a number of times, and where it ends.
+// A byte, how often it is repeated, and where its text in the line ends.
 struct Run {
     byte: u8,
     count: usize,
@@ -37,7 +37,7 @@ fn digit(b: u8) -> u64
     16
 }
 
-// A number below this has room for one digit more.
+// A number below this has room for one more digit.
 const ROOM: u64 = 1152921504606846976;
 
 // The number that begins at i, and where it ends.
@@ -83,7 +83,7 @@ fn no_byte(end: usize) -> Run
     }
 }
 
-// The byte that begins at k.
+// The byte whose text begins at k. If there is none, it is repeated 0 times.
 fn run_at(s: &[u8], k: usize) -> Run
     requires { ⌜ k < length (now s) ⌝ }
     ensures { λ r. ⌜ (k < r .end) × (r .end ≤ length (now (s .entry))) ⌝ }
@@ -118,7 +118,7 @@ fn run_at(s: &[u8], k: usize) -> Run
     }
 }
 
-// All of s is this byte.
+// Fills s with this byte.
 pub fn set(s: &mut [u8], byte: u8) {
     let mut i = 0;
     while i < s.len() {
@@ -127,7 +127,7 @@ pub fn set(s: &mut [u8], byte: u8) {
     }
 }
 
-// Puts a byte behind the first n, as often as is asked for and there is room. Gives how many there are then.
+// Puts a byte `count` times behind the first n bytes, or not at all if there is too little room. Returns how many bytes there are then.
 fn put(out: &mut [u8], n: usize, byte: u8, count: usize) -> usize
     requires { ⌜ n ≤ length (now out) ⌝ }
     ensures { λ r. ⌜ (n ≤ r) × (r ≤ length (now (out .entry))) ⌝ }
@@ -140,7 +140,7 @@ fn put(out: &mut [u8], n: usize, byte: u8, count: usize) -> usize
     end
 }
 
-// Puts the part that begins at i behind the first n bytes. Says how many there are then, and where the next word begins.
+// Puts the part that begins at i behind the first n bytes. Returns how many bytes there are then, and where the next word begins.
 pub fn part(s: &[u8], i: usize, out: &mut [u8], n: usize) -> Word
     requires { ⌜ (i ≤ length (now s)) × (n ≤ length (now out)) ⌝ }
     ensures { λ r. ⌜ (n ≤ r .value) × (r .value ≤ length (now (out .entry))) × (r .end ≤ length (now (s .entry))) ⌝ }

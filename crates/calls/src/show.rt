@@ -29,7 +29,7 @@ pub fn number(n: u64) {
     io::print_decimal(1, n);
 }
 
-// A byte that is not a printed character of ASCII, a quote or a '\' as \x and two digits.
+// Prints a byte as a character. A quote, a '\' and a byte that is no printable ASCII character are printed as \x and two digits.
 fn character(b: u8) {
     if b < 0x20 || b > 0x7E || b == b'"' || b == b'\\' {
         io::write_all(1, b"\\x");
@@ -84,7 +84,7 @@ fn all(how: How, s: &[u8]) {
     run_out(run);
 }
 
-// A part of a name.
+// Prints a part of a name.
 pub fn part(s: &[u8]) {
     if s.len() > 48 {
         all(How::Runs, s);
@@ -95,7 +95,7 @@ pub fn part(s: &[u8]) {
     }
 }
 
-// A buffer with all its bytes.
+// Prints a buffer with all its bytes.
 pub fn buffer(s: &[u8]) {
     if s.len() > 48 {
         all(How::Runs, s);
@@ -104,7 +104,7 @@ pub fn buffer(s: &[u8]) {
     }
 }
 
-// A refusal, which has no other number beside it.
+// Prints a refusal. It should have no other number beside it; if it has, that is printed.
 pub fn refused(why: u64, others: u64) {
     io::write_all(1, b" refused");
     number(why);

@@ -1,6 +1,6 @@
-// Two numberings held against one another. A line is a number, a space and a name; `fresh` or `known` may stand before it. The names
-// of both are put into a dictionary whose numbers are below 65,536. Of each, `first_lines` has the line of the first numbering until the second has the
-// name too, else 0, and `numbers` the number that was said of it last.
+// Compares two numberings. A line is a number, a space and a name; `fresh` or `known` may stand before it. The names of both are put into a
+// dictionary whose numbers are below 65,536. For each name `first_lines` has its line in the first numbering, and 0 once the second numbering has the
+// name too. `numbers` has the number that the last line with the name gave.
 use crate::dictionary;
 use crate::dictionary::Lists;
 use crate::dictionary::NUMBERS;
@@ -14,7 +14,7 @@ use crate::report::Tally;
 ghost use Prim.Native.Nat.{_≤_};
 ghost use lib.ListN.{length};
 
-// Each kind has one block of 16,384, as many as a list holds.
+// Each kind has one block of 16,384 numbers: a list holds no more names.
 const WIDTH: u64 = 14;
 
 const COUNT: u64 = 4;
@@ -28,7 +28,7 @@ pub fn start(pages: &Pages, lists: &mut Lists, first_lines: &mut Numbers) {
     }
 }
 
-// The number of a line, where the name begins.
+// The number of a line. It ends where the name begins.
 fn numbered(s: &[u8]) -> Decimal
     ensures { λ r. ⌜ r .end ≤ length (now (s .entry)) ⌝ }
 {
@@ -40,7 +40,7 @@ fn numbered(s: &[u8]) -> Decimal
     line::word(s, 0)
 }
 
-// A number, and the name that has it.
+// Prints a number and the name that has it.
 fn pair(before: &[u8], value: u64, s: &[u8]) {
     report::text(before);
     report::number(value);
@@ -71,7 +71,7 @@ fn fresh(t: Tally, second: bool, value: u64, s: &[u8]) -> Tally {
     t
 }
 
-// A name of the first numbering, for the first time in the second.
+// A name of the first numbering that the second has now for the first time.
 fn both(t: Tally, one: u64, two: u64, s: &[u8]) -> Tally {
     let mut t = t;
     if one == two {
@@ -93,7 +93,7 @@ fn again(t: Tally, one: u64, two: u64, s: &[u8]) -> Tally {
     t
 }
 
-// Number i of the dictionary is said to have this number, by a line that ends with the name.
+// A line gives the number `value` to the name s, which has the number i in the dictionary.
 fn say(
     t: Tally,
     second: bool,
@@ -161,7 +161,7 @@ pub fn line_of(
     )
 }
 
-// The first line of the first numbering whose name the second has not.
+// The dictionary's number of the first name that only the first numbering has; NUMBERS if there is none.
 fn missing(first_lines: &Numbers) -> usize {
     let mut least = 0;
     let mut found = NUMBERS;
@@ -189,7 +189,7 @@ fn how_many(first_lines: &Numbers) -> u64 {
     n
 }
 
-// What is left to say once both are read. `refused`: how many lines of the first were.
+// Prints what is known once both are read. `refused`: how many lines of the first were refused.
 pub fn end(
     refused: u64,
     t: Tally,

@@ -1,4 +1,4 @@
-// The dictionary's memory and its sizes. The blocks are the caller's choice: the numbers depend on their width.
+// The dictionary's memory and its sizes. The caller chooses the blocks, because the numbers depend on their width.
 use crate::report;
 
 const PAGE_WIDTH: u64 = 16;
@@ -7,7 +7,7 @@ const PAGES: u64 = 32;
 
 const LIST_LENGTH: u64 = 16384;
 
-// What these sizes need, with blocks up to 4,096.
+// The bytes that these sizes need, with up to 4,096 blocks.
 pub const PAGE_BYTES: usize = 2097152;
 
 pub const LIST_BYTES: usize = 2523904;
@@ -16,17 +16,17 @@ pub type Pages = [u8; PAGE_BYTES];
 
 pub type Lists = [u8; LIST_BYTES];
 
-// Something of each number below 65,536.
+// A table with a value for each number below 65,536.
 pub const NUMBERS: usize = 65536;
 
 pub type Numbers = [u64; NUMBERS];
 
-// The blocks if none are asked for: as wide as Nemo's.
+// The blocks if the caller asks for none. They are as wide as Nemo's.
 pub const WIDTH: u64 = 24;
 
 pub const COUNT: u64 = 4096;
 
-// A dictionary with no names, and whether it could be opened.
+// Opens a dictionary with no names. Returns whether it could be opened.
 pub fn open(pages: &Pages, lists: &mut Lists, width: u64, count: u64) -> bool {
     let refusal = namedict::namedict_open(
         pages,

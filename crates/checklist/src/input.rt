@@ -10,7 +10,7 @@ use crate::report::Tally;
 ghost use Prim.Native.Nat.{_<_, _≤_};
 ghost use lib.ListN.{length};
 
-// What is done with a line: its name is numbered, its number read; it is of the first or the second of two numberings.
+// What to do with a line: number its name, read its number back, or take it as a line of the first or the second of two numberings.
 pub enum Task {
     Number,
     Read,
@@ -18,7 +18,7 @@ pub enum Task {
     Second,
 }
 
-// The end of a line without the '\r' that some editors put before the '\n'.
+// The end of a line without each '\r' before the '\n', which some editors put there.
 fn trimmed(s: &[u8]) -> usize
     ensures { λ r. ⌜ r ≤ length (now (s .entry)) ⌝ }
 {
@@ -32,7 +32,7 @@ fn trimmed(s: &[u8]) -> usize
     n
 }
 
-// The start of a line of n bytes, behind the three bytes that some editors put at a file's start to say that it is UTF-8.
+// Where a line of n bytes starts: behind the three bytes that some editors put at a file's start to mark it as UTF-8.
 fn start(line: u64, s: &[u8], n: usize) -> usize
     requires { ⌜ n ≤ length (now s) ⌝ }
     ensures { λ r. ⌜ r ≤ n ⌝ }
@@ -46,7 +46,7 @@ fn start(line: u64, s: &[u8], n: usize) -> usize
     0
 }
 
-// What a line says. One of no bytes, or that begins with '#', is passed over.
+// Does the task with a line. An empty line, or one that begins with '#', is passed over.
 fn told(
     task: Task,
     t: Tally,
@@ -70,7 +70,7 @@ fn told(
     }
 }
 
-// One line, or what is left of one that was cut.
+// Runs one line, or passes over the end of a line that was cut.
 fn one(
     task: Task,
     t: Tally,
@@ -91,7 +91,7 @@ fn one(
     told(task, t, &s[from..n], pages, lists, numbers, first_lines)
 }
 
-// Each line of s.
+// Runs each line of s.
 fn each(
     task: Task,
     t: Tally,
@@ -111,7 +111,7 @@ fn each(
     t
 }
 
-// Behind the last line end before `end`; 0 if there is none.
+// The index behind the last line end before `end`; 0 if there is none.
 fn whole(s: &[u8], end: usize) -> usize
     requires { ⌜ end ≤ length (now s) ⌝ }
     ensures { λ r. ⌜ r ≤ end ⌝ }
@@ -137,7 +137,7 @@ fn shift(buf: &mut [u8], from: usize)
     }
 }
 
-// Keeps what is from n to `end`, at the front, and gives how many bytes that is. A line that fills the buffer is not kept.
+// Moves the bytes from n to `end` to the front and returns how many they are. A line that fills the buffer is not kept.
 fn keep(buf: &mut [u8], n: usize, end: usize) -> usize
     requires { ⌜ (n ≤ end) × (end ≤ length (now buf)) ⌝ }
     ensures { λ r. ⌜ r ≤ length (now (buf .entry)) ⌝ }
@@ -149,7 +149,7 @@ fn keep(buf: &mut [u8], n: usize, end: usize) -> usize
     end - n
 }
 
-// What one read has brought: how many bytes there are then.
+// What one read has brought. `end`: how many bytes the buffer has then.
 struct Filled {
     end: usize,
     failed: bool,
@@ -170,7 +170,7 @@ fn fill(fd: i32, buf: &mut [u8], kept: usize) -> Filled
     }
 }
 
-// A line that fills the buffer. It is too long for a name, or a remark.
+// A line that fills the buffer is refused as too long, unless it is a remark.
 fn cut_short(t: Tally, full: bool, first: u8) -> Tally {
     let mut t = t;
     if !full || t.cut {
@@ -184,8 +184,8 @@ fn cut_short(t: Tally, full: bool, first: u8) -> Tally {
     report::refused(t, 5)
 }
 
-// Runs the lines of an open file through a buffer. Nothing says that a file ends, so the turns are counted down from a number that no
-// run uses up.
+// Runs the lines of an open file through a buffer. The loop must have an end, but nothing says that a file has one. So the turns are counted
+// down from a number that no run uses up.
 fn through(
     fd: i32,
     buf: &mut [u8],
@@ -198,7 +198,7 @@ fn through(
     requires { ⌜ 0 < length (now buf) ⌝ }
 {
     let mut t = report::none(true);
-    // How many bytes at the buffer's front begin a line.
+    // How many bytes at the buffer's front are the start of a line.
     let mut kept = 0;
     let mut turns = u64::MAX;
     while turns > 0 {
@@ -220,7 +220,7 @@ fn through(
     t
 }
 
-// Runs the lines of an open file. A line of 65,536 bytes or more does not fit.
+// Runs the lines of an open file. A line of 65,536 bytes or more does not fit the buffer.
 pub fn run(
     fd: i32,
     task: Task,

@@ -1,4 +1,4 @@
-// The parts of a line: a decimal number; a name, which is its kind, a space, its first part and, behind a tab, its second part.
+// The parts of a line: a decimal number, or a name. A name is its kind, a space, its first part and, behind a tab, its second part.
 use parts::Mode;
 ghost use Prim.Native.Nat.{_≤_};
 ghost use lib.ListN.{length};
@@ -19,12 +19,12 @@ pub struct Name {
     pub second: usize,
 }
 
-// Whether a word is this one.
+// Whether `word` and `name` are equal.
 pub fn is(word: &[u8], name: &[u8]) -> bool {
     parts::same(Mode::Raw, name, word)
 }
 
-// A number below this has room for one digit more.
+// A number below this has room for one more digit.
 const ROOM: u64 = 1000000000000000000;
 
 // A digit's value; 10 for any other byte.
@@ -40,7 +40,7 @@ fn digit(b: u8) -> u64
     (b - b'0') as u64
 }
 
-// The number that begins at i: of 19 digits at the most, which 64 bits hold.
+// The number that begins at i. It has at most 19 digits, which 64 bits hold.
 pub fn number(s: &[u8], i: usize) -> Decimal
     requires { ⌜ i ≤ length (now s) ⌝ }
     ensures { λ r. ⌜ (i ≤ r .end) × (r .end ≤ length (now (s .entry))) ⌝ }

@@ -13,20 +13,20 @@ use input::Task;
 use report::Tally;
 ghost use Prim.Native.Nat.{_<_, _≤_};
 
-// No more words than this are looked at.
+// The run looks at no more words than this.
 const MOST_WORDS: usize = 1000;
 
-// A word behind them all.
+// A word number behind all words: there the run ends.
 const STOP: usize = 2000;
 
-// The word where the next command is, and the blocks of the dictionary that it finds.
+// The word where the next command is, and the blocks of the dictionary that it gets.
 struct Next {
     word: usize,
     width: u64,
     count: u64,
 }
 
-// The lines of the file that word i names.
+// Runs the lines of the file that word i names.
 fn file(
     i: usize,
     task: Task,
@@ -51,7 +51,7 @@ fn file(
     t
 }
 
-// The number that word i is; 0 if it is none.
+// The number that word i is; 0 if it is no number.
 fn size(i: usize) -> u64 {
     let mut word = io::buffer();
     let n = os::arg(i, &mut word);
@@ -59,7 +59,7 @@ fn size(i: usize) -> u64 {
     if x.end == n { x.value } else { 0 }
 }
 
-// Numbers the names of a file. The answer, as of the next two: whether all of it could be read.
+// Numbers the names of a file. This function and the next two return whether everything could be read.
 fn number_names(
     i: usize,
     pages: &mut Pages,
@@ -86,7 +86,7 @@ fn read_back(
     t.read
 }
 
-// Compares the numberings of two files, in the memory of the dictionary, which has no names afterwards.
+// Compares the numberings of two files. It uses the dictionary's memory, so the caller opens the dictionary again.
 fn compare_two(
     i: usize,
     j: usize,
@@ -107,7 +107,7 @@ fn compare_two(
     second.read
 }
 
-// What comes after a command that has run up to word i. One that has failed is the last.
+// What comes after a command whose words end before word i. A command that has failed is the last.
 fn after(done: bool, i: usize, width: u64, count: u64) -> Next
     requires { ⌜ i ≤ 1003 ⌝ }
     ensures { λ r. ⌜ i ≤ r .word ⌝ }

@@ -1,4 +1,4 @@
-// Lines of names, which are numbered, and lines of numbers, which are read back into names.
+// Numbers the name of a line, or reads the number of a line back into a name.
 use crate::dictionary::Lists;
 use crate::dictionary::Pages;
 use crate::line;
@@ -33,10 +33,10 @@ pub fn add(t: Tally, s: &[u8], pages: &mut Pages, lists: &mut Lists) -> Tally {
     t
 }
 
-// As long as the longest name.
+// The length of the longest name.
 const LONGEST: usize = 4000;
 
-// The name that a number has: as in a line.
+// Prints the name that a number has, as in a line.
 pub fn name_of(number: u64, pages: &Pages, lists: &Lists) {
     let mut buffer = [0u8; LONGEST];
     let r = namedict::namedict_read(pages, lists, number, &mut buffer);
@@ -53,7 +53,7 @@ pub fn name_of(number: u64, pages: &Pages, lists: &Lists) {
     parts_of(&buffer, r.first_len, r.second_len);
 }
 
-// Both parts, a tab before the second if it is not empty.
+// Prints both parts, with a tab before the second if it is not empty.
 fn parts_of(buffer: &[u8], first: u64, second: u64) {
     let n = buffer.len() as u64;
     if n < first {

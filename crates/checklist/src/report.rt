@@ -1,6 +1,6 @@
-// What is printed. A line that begins with '#' is a remark: it is no name and no number, and is passed over where it is read again.
+// What is printed. A line that begins with '#' is a remark: it is no name and no number, and it is passed over when it is read again.
 
-// What the lines of a file came to.
+// What the lines of a file have given so far.
 pub struct Tally {
     // Whether all of the file could be read.
     pub read: bool,
@@ -10,7 +10,7 @@ pub struct Tally {
     pub fresh: u64,
     pub known: u64,
     pub refused: u64,
-    // Of two numberings: names with the same number, with another, and that only the second has.
+    // Of two numberings: how many names have the same number, have another one, are only in the second.
     pub agree: u64,
     pub differ: u64,
     pub added: u64,
@@ -42,7 +42,7 @@ pub fn number(n: u64) {
     io::print_decimal(1, n);
 }
 
-// Document 01's word for a refusal.
+// Prints document 01's word for a refusal.
 pub fn word(refusal: u64) {
     match refusal {
         1 => text(b"bad size"),
@@ -68,7 +68,7 @@ pub fn remark(what: &[u8], which: &[u8]) {
     text(b"\n");
 }
 
-// A line that is passed over, and why. The tally with it.
+// Prints why a line cannot be taken, and counts it as refused.
 pub fn passed_over(t: Tally, why: &[u8]) -> Tally {
     let mut t = t;
     text(b"# line ");
@@ -108,7 +108,7 @@ pub fn usage(word: &[u8]) {
     );
 }
 
-// More words than are looked at, unless the last command has failed, which leads to `stop`.
+// Says that there are too many words. If i is `stop`, the last command has failed, and nothing is said.
 pub fn too_many(i: usize, stop: usize) {
     if i < stop {
         text(b"# too many words\n");

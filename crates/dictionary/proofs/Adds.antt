@@ -1,4 +1,4 @@
--- Each way that add answers is as promised. Assumes nothing.
+-- Each answer of add is as promised. Assumes nothing.
 use Prim.Native.Nat.{ℕ}
 use mathlib.Core.Path.{_≡_, refl, sym, ap, subst, _∙_}
 use mathlib.Core.Logic.{inl, inr}

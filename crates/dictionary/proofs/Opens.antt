@@ -1,4 +1,4 @@
--- Each way that open answers is as promised. Assumes nothing.
+-- Each answer of open is as promised. Assumes nothing.
 use Prim.Native.Nat.{ℕ, _<_, _≤_}
 use mathlib.Core.Path.{_≡_, refl, sym}
 use native.Mathlib.Omega.{arith}

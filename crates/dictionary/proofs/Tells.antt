@@ -1,4 +1,4 @@
--- Each way that read answers, and what it leaves in the buffer, is as promised. Assumes nothing.
+-- Each answer of read, and what it leaves in the buffer, is as promised. Assumes nothing.
 use Prim.Native.Nat.{ℕ, _+_, _<_, _≤_}
 use mathlib.Core.Path.{_≡_, refl, _∙_}
 use mathlib.Core.Logic.{inl, inr}

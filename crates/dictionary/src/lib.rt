@@ -67,7 +67,7 @@ pub fn open(
     OpenResult::Done
 }
 
-// Gives a name its number: a new one, or the one that it has. Both parts have one lifetime, since the rest may lie in either; so in find.
+// Gives a name its number: a new one, or the one that it has. Both parts have one lifetime, since the rest may lie in either. The same holds for find.
 pub fn add<'a>(
     pages: &mut [u8],
     lists: &mut [u8],

@@ -1,4 +1,4 @@
--- What the plan of one entry more answers, from what was read for it. Assumes nothing.
+-- What the plan of one more entry answers, from what was read for it. Assumes nothing.
 use Prim.Native.Nat.{ℕ, _≤_, _<_}
 use mathlib.Core.Path.{_≡_, refl, sym, ap, subst, _∙_}
 use mathlib.Core.Logic.{_⊎_, inl, inr}

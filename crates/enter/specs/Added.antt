@@ -1,4 +1,4 @@
--- What the steps of an add promise, of the names that their arguments mean. Assumes nothing.
+-- What the steps of an add promise for the names that their arguments mean. Assumes nothing.
 use Prim.Native.Nat.{ℕ}
 use mathlib.Core.Path.{_≡_}
 use mathlib.Core.Bool.{false}
@@ -21,12 +21,12 @@ pub record AddsName (s : Sizes) (Means : State → Name → Type 0) (pages lists
   pub beyond : SameBeyond s pages lists pages′ lists′
   pub whole : (st : State) (a : Name) → Stands s st pages lists → checks s a ≡ none → Means st a → (r ≡ addAnswer s st a) × Stands s (afterAdd s st a) pages′ lists′
 
--- Refused where a refusal is given, with nothing written; else added.
+-- If there is a refusal, the add is refused and nothing is written. Else the name is added.
 unfoldable pub Judged : Option Refusal → Sizes → (State → Name → Type 0) → Bytes → Bytes → AddAnswer → Bytes → Bytes → Type 0
 Judged (some why) s Means pages lists r pages′ lists′ = (r ≡ AddAnswer.refused why) × (pages′ ≡ pages) × (lists′ ≡ lists)
 Judged none s Means pages lists r pages′ lists′ = AddsName s Means pages lists r pages′ lists′
 
--- A name of the kind k whose head is stored, or that has none, with this key.
+-- A name of the kind k with this key. Its head is stored, or it has none.
 pub record HasKey (k : ℕ) (key : Bytes) (st : State) (a : Name) : Type 0 where
   pub kinded : a .kind ≡ k
   pub old : newHead a (st .part k) ≡ false

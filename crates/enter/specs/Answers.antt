@@ -48,7 +48,7 @@ spotChecked (Next page) = Legal
 spotChecked NoPage = Illegal W.NoPage
 spotChecked Bad = Illegal W.Unopened
 
--- The refusal of a block that is none.
+-- The refusal where no block was found.
 abbrev pub blockRefused : Allocated → Chosen
 blockRefused (A.Block g) = R.Refused W.Unopened
 blockRefused A.NoBlock = R.Refused W.NoBlock
@@ -78,7 +78,7 @@ pub record Chooses (s : Sizes) (lists : Bytes) (k n : ℕ) (r : Chosen) : Type 0
   pub bounded : ChosenBounded s n r
   pub right : (pages : Bytes) (st : State) → Stands s st pages lists → st .blocks .next k ≡ n → r ≡ chosenBy (stampOf (st .blocks)) (pick s (st .blocks) k)
 
--- ---- the plan of one entry more of the kind k
+-- ---- the plan of one more entry of the kind k
 
 pub record ReadyEntry (s : Sizes) (st : State) (lists : Bytes) (k len : ℕ) (x : Plan) : Type 0 where
   pub number : x .n ≡ length (st .part k .names)
@@ -98,7 +98,7 @@ abbrev pub PlanSays : Sizes → State → Bytes → ℕ → ℕ → Planned → 
 PlanSays s st lists k len (P.Ready x) = ReadyEntry s st lists k len x
 PlanSays s st lists k len (P.Refused why) = NoEntry s st lists k len why
 
--- What every memory's plan has.
+-- What a plan has on any memory.
 pub record PlanFits (s : Sizes) (len : ℕ) (x : Plan) : Type 0 where
   pub number : x .n < s .e
   pub spotted : IsSpot (x .spot)

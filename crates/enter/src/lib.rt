@@ -1,4 +1,4 @@
-// An add of one entry to a kind's names: everything is decided, then everything is written. The memory may be anybody's.
+// An add of one entry to a kind's names: first everything is decided, then everything is written. The memory may hold any bytes.
 use bytes_buffer::Lowest;
 use bytes_buffer::Spot;
 use bytes_dictionary::Counted;
@@ -78,7 +78,7 @@ pub enum Chosen {
     Refused(Refusal),
 }
 
-// The refusal of a block that is none.
+// The refusal where no block was found.
 fn refuse_block(allocated: Allocated) -> Chosen
     ensures { λ r. ⌜ r ≡ blockRefused allocated ⌝ }
 {
@@ -104,7 +104,7 @@ pub fn choose_block(lists: &[u8], s: Sizes, k: usize, n: usize) -> Chosen
     Chosen::Block { g, stamp }
 }
 
-// A name that is there has the number of its entry.
+// The answer for a name that is stored already, as the entry `id`.
 pub fn known(lists: &[u8], s: Sizes, k: usize, id: EntryId) -> AddResult
     requires { ⌜ InRange s × (listBytes s ≤ length (now lists)) × (k < kinds) ⌝ }
     ensures { λ r. ⌜ Knows s (now (lists .entry)) k (id .0) r ⌝ }
@@ -154,7 +154,7 @@ fn plan_entry(lists: &[u8], s: Sizes, k: usize, len: usize) -> Planned
     }
 }
 
-// Adds a key, whose hash is h, that is not among the kind k's names. Its search ended at `place`.
+// Adds a key that is not among the kind k's names. Its hash is h, and its search ended at `place`.
 fn add_entry(
     pages: &mut [u8],
     lists: &mut [u8],
@@ -193,8 +193,8 @@ fn add_entry(
     }
 }
 
-// Adds a name of the kind k by its key, whose hash is h, or finds it there (Nemo's add_str). Its text is checked after the search, which does
-// not wait for it; or it is known to be ASCII.
+// Adds a name of the kind k by its key, whose hash is h, or finds it there (Nemo's add_str). The text is checked after the search, which does
+// not wait for it. If the name is known to be ASCII, it is text.
 pub fn add_str(
     pages: &mut [u8],
     lists: &mut [u8],

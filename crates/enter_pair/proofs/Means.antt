@@ -1,4 +1,4 @@
--- What an add promises of the names that its arguments mean, by other arguments that mean the same names. Assumes nothing.
+-- An add's promise for some arguments gives its promise for others that mean the same names. Assumes nothing.
 use Prim.Native.Nat.{ℕ}
 use mathlib.Core.Path.{_≡_, sym, subst}
 use mathlib.Core.Bool.{false}

@@ -24,7 +24,7 @@ use Rattle.enter_pair.specs.declared.PairPlan.{PairPlan}
 use Rattle.enter_pair.specs.declared.PairPlanned.{PairPlanned}
 use Rattle.enter_pair.specs.declared.PairPlanned.the-variants.{Ready, Refused}
 
--- Where the head goes, and where the pair goes after it.
+-- Where the head goes; then where the pair goes after it.
 abbrev pub headSpot : Sizes → State → Bytes → ℕ → ℕ → Spot
 headSpot s st lists k size = spotIn s (wordAt lists) (row k .headsAt) (allPages (st .space)) size
 
@@ -39,7 +39,7 @@ pub record ReadyPair (s : Sizes) (st : State) (lists : Bytes) (k size len : ℕ)
   pub block : pick s (st .blocks) k ≡ some (x .g)
   pub stamp : x .stamp ≡ stampOf (st .blocks)
 
--- Why there is no plan, the head being number f: a list is full; a page too few is left; the rule picks no block.
+-- Why there is no plan if the head has the number f: a list is full; too few pages are left; the rule picks no block.
 pub data NoPair (s : Sizes) (st : State) (lists : Bytes) (k f size len : ℕ) : Refusal → Type 0 where
   full : (s .e ≤ length (st .part k .names)) ⊎ (s .e ≤ f) → NoPair s st lists k f size len W.ListFull
   pageless : length (st .part k .names) < s .e → f < s .e
@@ -53,7 +53,7 @@ abbrev pub PairPlanSays : Sizes → State → Bytes → ℕ → ℕ → ℕ → 
 PairPlanSays s st lists k f size len (Ready x) = ReadyPair s st lists k size len x
 PairPlanSays s st lists k f size len (Refused why) = NoPair s st lists k f size len why
 
--- What every memory's plan has.
+-- What a plan has on any memory.
 pub record PairPlanFits (s : Sizes) (f size len : ℕ) (x : PairPlan) : Type 0 where
   pub heads : f < s .e
   pub number : x .n < s .e

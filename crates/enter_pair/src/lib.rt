@@ -143,7 +143,7 @@ fn commit_pair(
     AddResult::Fresh(meta_dv_dict::number_in(s, g, LocalId(n)))
 }
 
-// Adds a name with a new head, whose search ended at `headplace`: the head and its pair. The head's number will be how many heads there are.
+// Adds a name with a new head: the head and its pair. The search for the head ended at `headplace`. The head's number is how many heads there were.
 fn add_both(
     pages: &mut [u8],
     lists: &mut [u8],
@@ -229,7 +229,7 @@ fn add_behind(
 }
 
 // Adds a name with a head and a rest: the head, if it is new, and the pair of its number and the rest; or finds the pair there. The text is
-// checked once the head was searched for, or in add_str.
+// checked after the search for the head, or in add_str.
 fn add_pair(
     pages: &mut [u8],
     lists: &mut [u8],

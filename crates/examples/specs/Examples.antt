@@ -1,4 +1,4 @@
--- Document 01's marked bench cards, M1 to M11, said of the definitions that the contracts cite. Assumes nothing.
+-- Document 01's worked examples, M1 to M11, said of the definitions that the contracts cite. Assumes nothing.
 use Prim.Native.Nat.{ℕ, zero, suc, _^_}
 use mathlib.Core.Path.{_≡_}
 use mathlib.Core.Bool.{true, false}
@@ -39,14 +39,14 @@ m7Tag = replicate 127 97 ++ 62 ∷ []
 abbrev pub sizes : ℕ → Sizes
 sizes b = record { p = 13; n = 4; e = 100; w = 4; b = b }
 
--- n IRIs; and n strings after 65 of them, newest first.
+-- The kinds of n IRIs; then of n strings after 65 IRIs, newest first.
 abbrev pub iris : ℕ → List ℕ
 iris n = replicate n 0
 
 abbrev pub strings : ℕ → List ℕ
 strings n = replicate n 1 ++ iris 65
 
--- The name of a kind whose first part is one byte; the first n of them, newest first.
+-- The name of a kind whose first part is the byte n; then the first n of these names, newest first.
 abbrev pub named : ℕ → ℕ → Name
 named k n = entered k (n ∷ []) []
 
@@ -66,14 +66,15 @@ afterIris b n = added (sizes b) opened (names 0 n)
 abbrev pub afterStrings : ℕ → State
 afterStrings n = added (sizes 8) (afterIris 8 65) (names 1 n)
 
+-- Document 01: the marked bench cards.
 pub record Examples : Type 0 where
   -- M1 `http://p/a#b`, M2 `a/`, M3 `urn:press`: the head's length.
   pub m1-m3 : lengthOf (headOf http) ∷ lengthOf (headOf (97 ∷ 47 ∷ [])) ∷ lengthOf (headOf press) ∷ [] ≡ 11 ∷ 2 ∷ 0 ∷ []
   pub m1-m2-rests : drop (lengthOf (headOf http)) http ∷ drop (lengthOf (headOf (97 ∷ 47 ∷ []))) (97 ∷ 47 ∷ []) ∷ [] ≡ (98 ∷ []) ∷ [] ∷ []
-  -- M4 leads of 63, 64, 16,383 and 16,384, in a buffer of 5 bytes.
+  -- M4 the frequent ids of 63, 64, 16,383 and 16,384, in a buffer of 5 bytes.
   pub m4 : writeFidBuffer 63 (found 5) ∷ writeFidBuffer 64 (found 5) ∷ writeFidBuffer 16383 (found 5) ∷ writeFidBuffer 16384 (found 5) ∷ []
       ≡ (63 ∷ found 4) ∷ (64 ∷ 64 ∷ found 3) ∷ (127 ∷ 255 ∷ found 3) ∷ (128 ∷ 64 ∷ 0 ∷ found 2) ∷ []
-  -- M5 the lead of 4,194,304; 2^30 gives 12.
+  -- M5 the frequent id of 4,194,304; 2^30 gives 12.
   pub m5 : writeFidBuffer 4194304 (found 5) ≡ 192 ∷ 64 ∷ 0 ∷ 0 ∷ found 1
   pub m5-answers : writeFidAnswer 4194304 5 ∷ writeFidAnswer (2 ^ 30) 5 ∷ [] ≡ Length 4 ∷ Refused HighNumber ∷ []
   pub m5-number : refusalNumber HighNumber ≡ 12
@@ -92,7 +93,7 @@ pub record Examples : Type 0 where
       ∷ blockRule (sizes 7) (iris 64) 0 ∷ []
       ≡ some 16 ∷ some 32 ∷ some 64 ∷ some 112 ∷ some 48 ∷ some 80 ∷ some 96 ∷ none ∷ []
   pub m11-number : refusalNumber NoBlock ≡ 10
-  -- The same as the adds' own answers; and with B 7 a known one after the refused one.
+  -- The same numbers as answers of adds. With B 7 a known name is still known after the refused add.
   pub m9-m11-answers : addAnswer (sizes 8) (afterIris 8 16) (named 0 16) ∷ addAnswer (sizes 8) (afterIris 8 32) (named 0 32)
       ∷ addAnswer (sizes 8) (afterIris 8 48) (named 0 48) ∷ addAnswer (sizes 8) (afterIris 8 64) (named 0 64)
       ∷ addAnswer (sizes 8) (afterStrings 0) (named 1 0) ∷ addAnswer (sizes 8) (afterStrings 16) (named 1 16) ∷ addAnswer (sizes 8) (afterStrings 32) (named 1 32)

@@ -1,1 +1,1 @@
-// The worked examples of document 01 (its marked bench cards), computed on the definitions that the contracts cite. It holds no code.
+// The worked examples of document 01, computed on the definitions that the contracts cite. It holds no code.

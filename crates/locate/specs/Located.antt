@@ -32,7 +32,7 @@ pub record Copyable (pages : Bytes) (x : Pieces) : Type 0 where
   pub back : x .«back_at» + x .«back_len» ≤ length pages
   pub lengths : length (piecesIn pages x) ≡ x .first + x .second
 
--- So they do on any memory, in what the sizes need of the pages.
+-- What holds on any memory: the pieces lie in the bytes of the pages that the sizes need, and are as long as both parts together.
 pub record Within (s : Sizes) (pages : Bytes) (x : Pieces) : Type 0 where
   pub kinded : x .kind < kinds
   pub front : x .«front_at» + x .«front_len» ≤ pageBytes s
@@ -60,18 +60,18 @@ Tells pages none (At x) = ⊥
 Tells pages none Nothing = Unit {0}
 Tells pages none Bad = ⊥
 
--- The entry of the kind k that lies at `at` is some name's.
+-- The answer for the entry of the kind k that lies at `at`: within bounds, and right if the entry is the key of the name a.
 pub record LocatesEntry (s : Sizes) (pages lists : Bytes) (k at len : ℕ) (r : Located) : Type 0 where
   pub range : Bounded s pages r
   pub right : (st : State) (a : Name) → Stands s st pages lists → checks s a ≡ none → a .kind ≡ k → newHead a (st .part k) ≡ false
       → take len (drop at pages) ≡ keyOf (st .part k .heads) a
       → Tells pages (some a) r
 
--- The same of an entry that needs no other: whatever sizes and lists the pages go with.
+-- The same for an entry that is read without another one: it holds for all sizes and all lists.
 abbrev pub LocatesAlone : Bytes → ℕ → ℕ → ℕ → Located → Type 0
 LocatesAlone pages k at len r = (s : Sizes) (lists : Bytes) → pageBytes s ≤ length pages → at + len ≤ pageBytes s → LocatesEntry s pages lists k at len r
 
--- The name of a number.
+-- The answer for a number: within bounds, and the name that has it.
 pub record LocatesName (s : Sizes) (pages lists : Bytes) (number : ℕ) (r : Located) : Type 0 where
   pub range : Bounded s pages r
   pub right : (st : State) → Stands s st pages lists → Tells pages (nameOf s st number) r

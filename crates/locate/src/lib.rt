@@ -1,4 +1,4 @@
-// Where the name of a number lies in the pages, and its copy into a buffer. The memory may be anybody's: every number read from it is tested.
+// Where the name of a number lies in the pages, and its copy into a buffer. The memory may hold any bytes: every number read from it is tested.
 use bytes_dictionary::EntryId;
 use bytes_dictionary::Lookup;
 use layout::Sizes;
@@ -21,8 +21,8 @@ ghost use Rattle.layout.specs.Sizes.{InRange, kinds, pageBytes, listBytes};
 ghost use Rattle.model.specs.Kinds.{row};
 ghost use Rattle.locate.specs.Located.{unescapedIf, piecesIn, Copyable, LocatesEntry, LocatesAlone, LocatesName};
 
-// A name in the pages: its kind, the lengths of its parts, and two pieces whose bytes are the first part, then the second. The pieces are an IRI's or a typed
-// value's head and rest, a plain string and nothing, a tagged string's text and its tag, which is escaped if it is a long one.
+// A name in the pages: its kind, the lengths of its parts, and two pieces whose bytes are the first part, then the second. An IRI and a typed value have head
+// and rest as pieces, a plain string has itself and nothing, a tagged string has text and tag. A long tag is escaped.
 pub struct Pieces {
     pub kind: usize,
     pub first: usize,
@@ -41,7 +41,7 @@ pub enum Located {
     Bad,
 }
 
-// An entry is a head's frequent id and the rest.
+// Where a name lies whose entry is a head's frequent id and the rest.
 fn locate_pair(pages: &[u8], lists: &[u8], s: Sizes, k: usize, at: usize, len: usize) -> Located
     requires { ⌜ InRange s × (pageBytes s ≤ length (now pages)) × (listBytes s ≤ length (now lists)) ⌝ }
     requires { ⌜ (k < kinds) × (row k .paired ≡ true) × (at + len ≤ pageBytes s) ⌝ }
@@ -64,7 +64,7 @@ fn locate_pair(pages: &[u8], lists: &[u8], s: Sizes, k: usize, at: usize, len: u
         return Located::Bad;
     };
     let rest_len = len - length;
-    // What the rest gives to the first part.
+    // How many bytes of the rest belong to the first part.
     let moved = if k == IRI { rest_len } else { 0 };
     Located::At(Pieces {
         kind: k,
@@ -78,7 +78,7 @@ fn locate_pair(pages: &[u8], lists: &[u8], s: Sizes, k: usize, at: usize, len: u
     })
 }
 
-// An entry is a packed text and tag.
+// Where a name lies whose entry is a packed text and tag.
 fn locate_tagged(pages: &[u8], at: usize, len: usize) -> Located
     requires { ⌜ at + len ≤ length (now pages) ⌝ }
     ensures { λ r. ⌜ LocatesAlone (now (pages .entry)) 2 at len r ⌝ }
@@ -120,7 +120,7 @@ fn locate_tagged(pages: &[u8], at: usize, len: usize) -> Located
     }
 }
 
-// An entry is a plain string.
+// Where a name lies whose entry is a plain string.
 fn locate_plain(at: usize, len: usize) -> Located
     ensures { λ r. ⌜ ((pages : Bytes) → LocatesAlone pages 1 at len r) ⌝ }
 {
@@ -169,7 +169,7 @@ pub fn locate_name(pages: &[u8], lists: &[u8], s: Sizes, number: GlobalId) -> Lo
     }
 }
 
-// Writes the bytes at `at`, with their escapes undone where they are escaped.
+// Writes the piece at `at`. If it is escaped, the escapes are undone.
 fn write_piece(piece: &[u8], escaped: bool, buffer: &mut [u8], at: usize)
     requires { ⌜ at + length (unescapedIf escaped (now piece)) ≤ length (now buffer) ⌝ }
     ensures { λ _. ⌜ now (buffer .exit) ≡ sets (now (buffer .entry)) at (unescapedIf escaped (now (piece .entry))) ⌝ }

@@ -1,4 +1,4 @@
--- What an add that has found everything out answers, and what its writes leave. Assumes nothing.
+-- What an add answers once everything is decided, and what its writes leave. Assumes nothing.
 use Prim.Native.Nat.{ℕ, _+_, _≤_, _<_}
 use mathlib.Core.Path.{_≡_, refl, sym, ap, subst, _∙_}
 use mathlib.Core.Logic.{_⊎_, _≢_, inl, inr}

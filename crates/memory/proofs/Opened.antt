@@ -1,4 +1,4 @@
--- Freshly initialised memory stands for the dictionary with no names, and keeps what lies past the sizes' need. Assumes nothing.
+-- Freshly initialised memory stands for the dictionary with no names, and keeps the bytes past what the sizes need. Assumes nothing.
 use Prim.Native.Nat.{_≤_}
 use mathlib.Core.Path.{refl}
 use native.Mathlib.Omega.{arith}

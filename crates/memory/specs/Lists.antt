@@ -1,4 +1,4 @@
--- Lists of calls over lent memory: each call meets its entry's promise and gets the memory as the one before left it, or slices with the same dictionary.
+-- Lists of calls over lent memory: each call meets its entry's promise and gets the memory as the call before left it, or slices with the same dictionary.
 -- Assumes nothing.
 use Prim.Native.Nat.{ℕ, _+_, _≤_, _<_}
 use mathlib.Core.Path.{_≡_}
@@ -24,14 +24,14 @@ Called m (find a r) m′ = FindPost (m .pages) (m .lists) a r (m′ .pages) (m�
 Called m (read n x r y) m′ = ReadPost (m .pages) (m .lists) n x r y (m′ .pages) (m′ .lists)
 Called m (count k r) m′ = CountPost (m .pages) (m .lists) k r (m′ .pages) (m′ .lists)
 
--- From m the calls of the list, newest first, leave z.
+-- The calls of the list, newest first, begin with the memory m and leave z.
 abbrev pub Calls : Memory → List Event → Memory → Type 0
 Calls m [] z = z ≡ m
 Calls m (e ∷ es) z = (y : Memory) × Calls m es y × Called y e z
 
 -- ---- slices that a call brings
 
--- The bytes that the sizes need are the same. The slices may be longer or shorter; where those of m are long enough, those of m′ are.
+-- The bytes that the sizes need are the same. The slices may be longer or shorter. If those of m are long enough, those of m′ are too.
 pub record SameDictionary (s : Sizes) (m m′ : Memory) : Type 0 where
   pub pages-same : take (pageBytes s) (m′ .pages) ≡ take (pageBytes s) (m .pages)
   pub lists-same : take (listBytes s) (m′ .lists) ≡ take (listBytes s) (m .lists)
@@ -40,14 +40,14 @@ pub record SameDictionary (s : Sizes) (m m′ : Memory) : Type 0 where
 abbrev pub Brings : Sizes → Memory → Event → Memory → Type 0
 Brings s m e z = (y : Memory) × SameDictionary s m y × Called y e z
 
--- From m the calls of the list, newest first, leave z: each brings slices with the dictionary as the one before left it.
+-- The calls of the list, newest first, begin with m and leave z. Each brings slices with the dictionary as the call before left it.
 abbrev pub Brought : Sizes → Memory → List Event → Memory → Type 0
 Brought s m [] z = z ≡ m
 Brought s m (e ∷ es) z = (y : Memory) × Brought s m es y × Brings s y e z
 
 -- ---- after the list
 
--- Demand 3's sentences on a count and a read after the list: its calls were es, with o before them, and left z.
+-- Demand 3's sentences on a count and a read after the list. Its calls were es, o was there before them, and they left z.
 pub record Demand3After (s : Sizes) (o : Before) (es : List Event) (z : Memory) : Type 0 where
   -- A count of a kind gives how many adds of the kind had said fresh by then.
   pub counts : (k : ℕ) (r : CountAnswer) (z′ : Memory) → Brings s z (count k r) z′ → k < kinds → r ≡ CountAnswer.count (howMany (o .count k) k (freshKinds es))

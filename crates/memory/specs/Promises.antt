@@ -80,7 +80,7 @@ pub record FindPost (pages lists : Bytes) (a : Name) (r : FindAnswer) (pages′ 
 
 -- ---- read
 
--- A name's kind is one of document 01's, its parts fit the buffer x, and y has x's bytes past them.
+-- A name's kind is one of document 01's, and its parts fit the buffer x. Past the parts the buffer y has the bytes of x.
 abbrev pub ReadBounded : Bytes → Bytes → ReadAnswer → Type 0
 ReadBounded x y (ReadAnswer.refused why) = (why ≡ Unopened) ⊎ (why ≡ ShortBuffer)
 ReadBounded x y (ReadAnswer.name k m n) = (k < kinds) × (m + n ≤ length x) × (drop (m + n) y ≡ drop (m + n) x)

@@ -1,4 +1,4 @@
--- Which memory stands for which state: facts that a program could check. The layout is free inside them. Assumes nothing.
+-- Which memory stands for which state: facts that a program could check. They do not fix where in the pages an entry lies. Assumes nothing.
 use Prim.Native.Nat.{ℕ, _<_}
 use mathlib.Core.Path.{_≡_}
 use mathlib.Core.Bool.{true, cond}
@@ -16,7 +16,7 @@ use Rattle.model.specs.State.{Stamped, Part, State, stampOf}
 use Rattle.model.specs.Keys.{keysOf}
 use Rattle.model.specs.Good.{Good}
 
--- Entry number i of a list with the newest first: i are older.
+-- Entry number i of a list with the newest first: i entries are older.
 abbrev pub entryIn : ℕ → List Bytes → Option Bytes
 entryIn i [] = none
 entryIn i (x ∷ xs) = cond (eqb i (length xs)) (some x) (entryIn i xs)

@@ -1,4 +1,4 @@
--- What an add's decision says of the state before it, and what it is. Assumes nothing.
+-- What an add decides, and what its decision says of the state before it. Assumes nothing.
 use Prim.Native.Nat.{ℕ}
 use mathlib.Core.Path.{_≡_, refl}
 use mathlib.Core.Option.{Option, none, some}

@@ -1,4 +1,4 @@
--- A fresh name comes in front of all living names, across the kinds. Assumes nothing.
+-- A fresh name comes in front of all names of the state, across the kinds. Assumes nothing.
 use Prim.Native.Nat.{ℕ, zero, suc, _<_, _≤_}
 use mathlib.Core.Path.{_≡_, refl}
 use mathlib.Core.List.{List, [], _∷_}

@@ -1,4 +1,4 @@
--- Pages: what an add's entries leave of the spaces. Assumes nothing.
+-- Pages: the spaces after the entries of an add. Assumes nothing.
 use Prim.Native.Nat.{ℕ, zero, suc, _<_}
 use mathlib.Core.Path.{_≡_, sym, subst}
 use mathlib.Core.Logic.{inl, inr}

@@ -1,4 +1,4 @@
--- A good state is known by what a memory can hold of it: so one memory stands for one state. Assumes nothing.
+-- What a memory can hold of a good state determines the state. So one memory stands for one state. Assumes nothing.
 use Prim.Native.Nat.{ℕ, zero, suc, _*_, _^_, _<_, _≤_}
 use mathlib.Core.Path.{_≡_, refl, sym, ap, _∙_}
 use mathlib.Core.Logic.{inl, inr}

@@ -27,12 +27,12 @@ pub data Event : Type 0 where
 
 -- ---- what is read off a list of events
 
--- In es stands e, right after the events xs.
+-- e is an event of es, and the events before it are xs.
 abbrev pub At : Event → List Event → List Event → Type 0
 At e xs [] = ⊥
 At e xs (x ∷ es) = ((e ≡ x) × (xs ≡ es)) ⊎ At e xs es
 
--- An add's answer said fresh with the number n; it gave the number n.
+-- The answer is fresh with the number n; then: it is fresh or known with the number n.
 abbrev pub SaidFresh : AddAnswer → ℕ → Type 0
 SaidFresh r n = r ≡ AddAnswer.fresh n
 
@@ -43,14 +43,14 @@ Gave r n = SaidFresh r n ⊎ (r ≡ AddAnswer.known n)
 abbrev pub Accepted : FindAnswer → Type 0
 Accepted r = (why : Refusal) → ¬ (r ≡ FindAnswer.refused why)
 
--- What there was before the list: names given numbers, how many of each kind, and the number that a fresh name of a kind gets after fresh names of
--- these kinds, newest first.
+-- What there was before the list. `given`: the names with their numbers. `count`: how many names each kind had. `rule`: the number that a fresh name of a
+-- kind gets after fresh names of these kinds, newest first.
 pub record Before : Type 1 where
   pub given : Name → ℕ → Type 0
   pub count : ℕ → ℕ
   pub rule : List ℕ → ℕ → Option ℕ
 
--- Before a list that starts from a freshly opened dictionary there was nothing, and numbers go by document 01's block rule.
+-- For a list that starts from a freshly opened dictionary: there was nothing before it, and document 01's block rule gives the numbers.
 abbrev pub nothing : Sizes → Before
 nothing s = record { given = λ a n. ⊥; count = λ k. zero; rule = blockRule s }
 
@@ -58,11 +58,11 @@ nothing s = record { given = λ a n. ⊥; count = λ k. zero; rule = blockRule s
 abbrev pub stepsRule : Sizes → State → List ℕ → ℕ → Option ℕ
 stepsRule s st ks k = numberPicked (s .w) (blocksAfter s (st .blocks) ks) k (pick s (blocksAfter s (st .blocks) ks) k)
 
--- Before a list that starts from a state there was what the state has.
+-- For a list that starts from a state: what the state has was there before it.
 abbrev pub beforeOf : Sizes → State → Before
 beforeOf s st = record { given = λ a n. numberOf s st a ≡ some n; count = λ k. length (st .part k .names); rule = stepsRule s st }
 
--- An add of a was answered with n as P says, in the list; or a was given n before it.
+-- In the list an add of a was answered with n as P says, or a was given n before the list.
 abbrev pub Added : (AddAnswer → ℕ → Type 0) → Before → Name → ℕ → List Event → Type 0
 Added P o a n [] = o .given a n
 Added P o a n (add b r ∷ es) = ((a ≡ b) × P r n) ⊎ Added P o a n es
@@ -89,7 +89,7 @@ freshKinds (find a r ∷ es) = freshKinds es
 freshKinds (read n x r y ∷ es) = freshKinds es
 freshKinds (count k r ∷ es) = freshKinds es
 
--- c, and one for each k in the list.
+-- c plus how often k is in the list.
 abbrev pub howMany : ℕ → ℕ → List ℕ → ℕ
 howMany c k [] = c
 howMany c k (j ∷ ks) = cond (eqb k j) (suc (howMany c k ks)) (howMany c k ks)

@@ -1,4 +1,4 @@
--- What every state has that calls can reach, said as facts that a program could check. Assumes nothing.
+-- Facts of every state that calls can reach. A program could check them. Assumes nothing.
 use Prim.Native.Nat.{ℕ, zero, _*_, _^_, _<_, _≤_}
 use mathlib.Core.Bool.{true, false}
 use mathlib.Core.Path.{_≡_}
@@ -14,7 +14,7 @@ use Rattle.model.specs.Kinds.{row}
 use Rattle.model.specs.State.{Stamped, Part, State, stampOf, localOf, entryNumber}
 use Rattle.model.specs.Steps.{checks, nameHead}
 
--- Names of the kind k: legal, pairwise different, their stamps falling, all below t.
+-- Names of the kind k, newest first: all are legal and no two are equal. Their stamps fall along the list, and all are below t.
 abbrev pub NamesOf : Sizes → ℕ → ℕ → List Stamped → Type 0
 NamesOf s k t [] = Unit {0}
 NamesOf s k t (x ∷ xs) = (checks s (x .name) ≡ none) × (x .name .kind ≡ k) × (localOf (x .name) xs ≡ none) × (x .stamp < t) × NamesOf s k (x .stamp) xs
@@ -45,7 +45,7 @@ pub record Good (s : Sizes) (st : State) : Type 0 where
   pub part : (k : ℕ) → GoodPart s k (stampOf (st .blocks)) (st .blocks .next k) (st .part k)
   pub used : (d : ℕ) → st .space d .used ≤ 2 ^ s .p
   pub taken : allPages (st .space) ≤ s .n
-  -- What no memory holds is zero, so that one memory stands for one state.
+  -- Numbers of the state that no memory holds are zero. So one memory stands for one state.
   pub unused : (k l : ℕ) → st .blocks .next k ≤ l * 2 ^ s .w → st .blocks .blockOf k l ≡ zero
   pub pageless : (d : ℕ) → st .space d .taken ≡ zero → st .space d .used ≡ zero
   pub beyond : (d : ℕ) → dictionaries ≤ d → st .space d .taken ≡ zero

@@ -41,7 +41,7 @@ tagged = record { noSecond = false; needsTag = true; paired = false; headsAt = 3
 abbrev pub typed : Row
 typed = record { noSecond = false; needsTag = false; paired = true; headsAt = 4; mainAt = 5; head = λ a. a .first; rest = λ a. a .second }
 
--- Kinds from 4 up have no row: no name of theirs passes the checks, and the last clause only says that they have no heads.
+-- There are no kinds from 4 up: the checks refuse every such name. The last clause only says that they have no heads.
 abbrev pub row : ℕ → Row
 row zero = iri
 row (suc zero) = plain

@@ -10,7 +10,7 @@ pub record Name : Type 0 where
   pub first : Bytes
   pub second : Bytes
 
--- Where a call's arguments become a name.
+-- The name that a call's arguments give.
 abbrev pub entered : ℕ → Bytes → Bytes → Name
 entered k a b = record { kind = k; first = a; second = b }
 

@@ -1,4 +1,4 @@
--- The living names across the kinds, by their stamps; and the fresh names of a list of calls. Assumes nothing.
+-- All names of a state across the kinds, ordered by their stamps; and the fresh names of a list of calls. Assumes nothing.
 use Prim.Native.Nat.{ℕ, zero, suc}
 use mathlib.Core.Bool.{cond}
 use mathlib.Core.List.{List, [], _∷_, _++_}
@@ -9,7 +9,7 @@ use Rattle.model.specs.Answers.{AddAnswer}
 use Rattle.model.specs.State.{Stamped, Part, State, stampOf}
 use Rattle.model.specs.Calls.{Event, add, find, read, count}
 
--- The names with the stamp t: of one kind; of the kinds below n.
+-- The names with the stamp t: of one kind; then of all kinds below n.
 abbrev pub withStamp : ℕ → List Stamped → List Name
 withStamp t [] = []
 withStamp t (x ∷ xs) = cond (eqb t (x .stamp)) (x .name ∷ withStamp t xs) (withStamp t xs)
@@ -18,7 +18,7 @@ abbrev pub allWith : (ℕ → Part) → ℕ → ℕ → List Name
 allWith f t zero = []
 allWith f t (suc n) = withStamp t (f n .names) ++ allWith f t n
 
--- All with stamps below t, newest first.
+-- All names with stamps below t, newest first.
 abbrev pub orderedBelow : (ℕ → Part) → ℕ → List Name
 orderedBelow f zero = []
 orderedBelow f (suc t) = allWith f t kinds ++ orderedBelow f t
@@ -26,7 +26,7 @@ orderedBelow f (suc t) = allWith f t kinds ++ orderedBelow f t
 unfoldable pub ordered : State → List Name
 ordered st = orderedBelow (st .part) (stampOf (st .blocks))
 
--- The names of the adds that said fresh, newest first, before those given.
+-- The names of the adds that said fresh, newest first, put in front of the names given.
 abbrev pub nameIfFresh : Name → AddAnswer → List Name → List Name
 nameIfFresh a (AddAnswer.refused why) ns = ns
 nameIfFresh a (AddAnswer.fresh n) ns = a ∷ ns

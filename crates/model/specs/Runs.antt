@@ -35,7 +35,7 @@ module _ (Mem : Type 0) (s : Sizes) (Stands : State → Mem → Type 0) where
   abbrev pub Step : Mem → Event → Mem → Type 0
   Step m e m′ = (st : State) → Stands st m → RightAnswer s st e × Stands (afterCall s st e) m′
 
-  -- From m the calls of the list leave z.
+  -- The calls of the list begin with the memory m and leave the memory z.
   abbrev pub Runs : Mem → List Event → Mem → Type 0
   Runs m [] z = z ≡ m
   Runs m (e ∷ es) z = (y : Mem) × Runs m es y × Step y e z

@@ -36,7 +36,7 @@ opened = record { part = λ k. record { names = []; heads = [] }; blocks = noBlo
 abbrev pub stampOf : Blocks → ℕ
 stampOf b = sum (b .next) kinds
 
--- ---- local numbers: how many are older
+-- ---- local numbers: how many of the list are older
 
 abbrev pub localOf : Name → List Stamped → Option ℕ
 localOf a [] = none

@@ -22,7 +22,7 @@ use Rattle.model.specs.State.{Part, State, stampOf, entryNumber, numberO
 
 -- ---- open: 1, 2
 
--- For slices of these lengths.
+-- The answer of open for slices of these lengths.
 unfoldable pub openAnswer : Sizes → ℕ → ℕ → OpenAnswer
 openAnswer s pages lists =
     cond (not (inRange s)) (OpenAnswer.refused BadSize)
@@ -34,11 +34,11 @@ openAnswer s pages lists =
 abbrev pub badKind : Name → Bool
 badKind a = leb kinds (a .kind) || (row (a .kind) .noSecond && not (isEmpty (a .second)))
 
--- Of the name's shape: 4, 5.
+-- The refusals of a name's shape: 4, 5.
 unfoldable pub shapeRefusal : Sizes → Name → Option Refusal
 shapeRefusal s a = cond (badKind a) (some BadKind) (cond (ltb (limit s) (size a)) (some TooLong) none)
 
--- Of its text: 6, 7.
+-- The refusals of its text: 6, 7.
 unfoldable pub textRefusal : Name → Option Refusal
 textRefusal a =
     cond (not (isText (a .first) && isText (a .second))) (some NotText)
@@ -65,21 +65,21 @@ orElse n (some f) = f
 abbrev pub nameHead : Name → Bytes
 nameHead a = row (a .kind) .head a
 
--- Is its head a new one?
+-- Whether the name has a head that is not stored yet.
 abbrev pub newHead : Name → Part → Bool
 newHead a pt = row (a .kind) .paired && isNone (entryNumber (nameHead a) (pt .heads))
 
--- What the main dictionary stores, under these heads: the rest, in a paired kind after the frequent id of its head, stored or next.
+-- What the main dictionary stores if these are the heads: the rest. In a paired kind the frequent id of the head comes first; a new head gets the next number.
 abbrev pub keyOf : List Bytes → Name → Bytes
 keyOf hs a = cond (row (a .kind) .paired) (fid (orElse (length hs) (entryNumber (nameHead a) hs)) ++ row (a .kind) .rest a) (row (a .kind) .rest a)
 
 -- ---- room for them: 8, 9
 
--- Would a full dictionary gain an entry?
+-- Whether a full dictionary would gain an entry.
 abbrev pub isFull : Sizes → Name → Part → Bool
 isFull s a pt = leb (s .e) (length (pt .names)) || (newHead a pt && leb (s .e) (length (pt .heads)))
 
--- The spaces with the head, if it is new; and then with the main entry.
+-- The spaces after the head is stored, if it is new; then after the main entry is stored too.
 abbrev pub spaceHead : Sizes → State → Name → ℕ → Space
 spaceHead s st a = cond (newHead a (st .part (a .kind))) (grownAt s (st .space) (row (a .kind) .headsAt) (length (nameHead a))) (st .space)
 
@@ -166,7 +166,7 @@ findAnswer s st a = findChecked s st a (checks s a)
 abbrev pub nameAnswer : Name → ReadAnswer
 nameAnswer a = ReadAnswer.name (a .kind) (length (a .first)) (length (a .second))
 
--- The parts one after the other at the buffer's start, the rest as it was.
+-- The parts stand one after the other at the buffer's start. The rest is as it was.
 abbrev pub nameWritten : Name → Bytes → Bytes
 nameWritten a buffer = a .first ++ a .second ++ drop (size a) buffer
 

@@ -1,4 +1,4 @@
--- From the numbers that exported calls returned to the answers that they tell: the promises hold of these. Assumes nothing.
+-- The numbers that exported calls returned tell answers, and the promises hold of these answers. Assumes nothing.
 use Prim.Native.Nat.{ℕ}
 use mathlib.Core.Path.{_≡_, refl, sym, ap, subst, _∙_}
 use mathlib.Core.Logic.{inl, inr}

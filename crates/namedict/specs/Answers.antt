@@ -1,4 +1,4 @@
--- The answers, back from the numbers that an exported entry returned. Assumes nothing.
+-- The answer of an exported entry, computed back from the numbers that it returned. Assumes nothing.
 use Prim.Native.Nat.{ℕ}
 use mathlib.Core.Bool.{Bool, cond}
 use lib.Dec.{eqb}

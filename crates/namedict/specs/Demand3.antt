@@ -20,12 +20,12 @@ use Rattle.namedict.specs.Returned.{Returned, add, find, read, count}
 
 -- ---- what is read off a list of calls
 
--- In es stands e, right after the calls xs.
+-- e is a call of es, and the calls before it are xs.
 abbrev pub CallAt : Returned → List Returned → List Returned → Type 0
 CallAt e xs [] = ⊥
 CallAt e xs (x ∷ es) = ((e ≡ x) × (xs ≡ es)) ⊎ CallAt e xs es
 
--- An add was given the number n: no refusal. It said fresh with the number n: its word is 1 besides.
+-- An add was not refused and was given the number n; then: it also said fresh, which is the word 1.
 abbrev pub GaveNumber : NamedictNumbered → ℕ → Type 0
 GaveNumber r n = (r .refusal ≡ 0) × (r .number ≡ n)
 

@@ -49,12 +49,12 @@ Exported m (find a r) m′ = FindReturned (m .pages) (m .lists) a r (m′ .pages
 Exported m (read n b r c) m′ = ReadReturned (m .pages) (m .lists) n b r c (m′ .pages) (m′ .lists)
 Exported m (count k r) m′ = CountReturned (m .pages) (m .lists) k r (m′ .pages) (m′ .lists)
 
--- From m the calls of the list, newest first, leave z: each gets the memory as the one before left it.
+-- The calls of the list, newest first, begin with m and leave z. Each gets the memory as the call before left it.
 abbrev pub ExportedCalls : Memory → List Returned → Memory → Type 0
 ExportedCalls m [] z = z ≡ m
 ExportedCalls m (e ∷ es) z = (y : Memory) × ExportedCalls m es y × Exported y e z
 
--- The same where each call may bring other slices, with the dictionary as the one before left it.
+-- The same if each call may bring other slices, with the dictionary as the call before left it.
 abbrev pub ExportedBrings : Sizes → Memory → Returned → Memory → Type 0
 ExportedBrings s m e z = (y : Memory) × SameDictionary s m y × Exported y e z
 

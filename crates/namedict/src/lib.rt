@@ -21,14 +21,14 @@ ghost use Rattle.dictionary.specs.Answers.{addedBy, foundBy, toldBy, countedBy}
 ghost use Rattle.namedict.specs.Numbers.{yesNo, writtenNumbers, valueNumbers, unpackedNumbers, refusedNumbers, addNumbers, findNumbers, nameNumbers, countNumbers};
 ghost use Rattle.namedict.specs.Returned.{OpenReturned, AddReturned, FindReturned, ReadReturned, CountReturned};
 
-// Packing, writing a frequent id.
+// What packing and writing a frequent id return.
 #[repr(C)]
 pub struct NamedictWritten {
     pub refusal: u64,
     pub length: u64,
 }
 
-// Reading a frequent id.
+// What reading a frequent id returns.
 #[repr(C)]
 pub struct NamedictValue {
     pub refusal: u64,
@@ -36,7 +36,7 @@ pub struct NamedictValue {
     pub length: u64,
 }
 
-// Unpacking.
+// What unpacking returns.
 #[repr(C)]
 pub struct NamedictUnpacked {
     pub refusal: u64,
@@ -59,7 +59,7 @@ fn written_numbers(answer: Written) -> NamedictWritten
     }
 }
 
-// Add: fresh, known; find: known, none. The word says which: 0 none, 1 fresh, 2 known.
+// What add and find return. The word says which answer: 0 none, 1 fresh, 2 known.
 #[repr(C)]
 pub struct NamedictNumbered {
     pub refusal: u64,
@@ -67,7 +67,7 @@ pub struct NamedictNumbered {
     pub number: u64,
 }
 
-// Read. The word is 4 for a name, 0 for none.
+// What read returns. The word is 4 for a name, 0 for none.
 #[repr(C)]
 pub struct NamedictName {
     pub refusal: u64,
@@ -77,14 +77,14 @@ pub struct NamedictName {
     pub second_len: u64,
 }
 
-// Count.
+// What count returns.
 #[repr(C)]
 pub struct NamedictCounted {
     pub refusal: u64,
     pub count: u64,
 }
 
-// Which answer.
+// The values of `word`.
 const NONE: u64 = 0;
 
 const FRESH: u64 = 1;

@@ -1,4 +1,4 @@
--- What the steps of an entry are given: the slices with their sizes and a kind, and the head and rest of a name. Assumes nothing.
+-- The head and the rest of a name, as the steps of an entry are given them. Assumes nothing.
 use Prim.Native.Nat.{ℕ, zero, suc, _<_, _≤_}
 use mathlib.Core.Path.{_≡_}
 use lib.ListN.{length, drop}
@@ -15,7 +15,7 @@ pub record IsPair (k : ℕ) (head rest : Bytes) (a : Name) : Type 0 where
   pub headed : row k .head a ≡ head
   pub rested : row k .rest a ≡ rest
 
--- How many bytes of the first part are the head, where the kind has heads: an IRI splits, a typed value's head is the whole.
+-- How many bytes of the first part are the head, where the kind has heads. An IRI splits; a typed value's head is its whole first part.
 abbrev pub headSize : ℕ → Bytes → ℕ
 headSize zero first = headLength first
 headSize (suc k) first = length first

@@ -90,7 +90,7 @@ pub fn check_shape(s: Sizes, kind: usize, first: &[u8], second: &[u8]) -> Checke
     Checked::Legal
 }
 
-// Whether both parts are text. ASCII: it is known already.
+// Whether both parts are text. `ascii`: the caller knows already that they are.
 fn are_text(first: &[u8], second: &[u8], ascii: bool) -> bool
     requires { ⌜ (ascii ≡ true → (isText (now first) ≡ true) × (isText (now second) ≡ true)) ⌝ }
     ensures { λ r. ⌜ r ≡ (isText (now (first .entry)) && isText (now (second .entry))) ⌝ }
@@ -104,7 +104,7 @@ fn are_text(first: &[u8], second: &[u8], ascii: bool) -> bool
     utf8::is_text(second)
 }
 
-// Refusals 6 and 7 of a name. ASCII: the caller has met no byte of the name that is not a character by itself.
+// Refusals 6 and 7 of a name. `ascii`: the caller has seen every byte of the name, and all are ASCII.
 pub fn check_text(kind: usize, first: &[u8], second: &[u8], ascii: bool) -> Checked
     requires { ⌜ (ascii ≡ true → (isText (now first) ≡ true) × (isText (now second) ≡ true)) ⌝ }
     ensures { λ r. ⌜ r ≡ checkedBy (textRefusal (entered kind (now (first .entry)) (now (second .entry)))) ⌝ }

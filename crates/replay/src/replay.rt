@@ -1,5 +1,6 @@
-// A line is a call with its answer: + add, ? find, < read, # count; the kind; f fresh, k known, n a name, - none; the number in four
-// hexadecimal digits and a space; the first part, '|', the second part. Of a read the number is given, and the name is the answer.
+// Runs the calls of a list and compares the answers. A line is a call with its answer: + add, ? find, < read, # count; the kind; f fresh,
+// k known, n a name, - none; the number in four hexadecimal digits and a space; the first part, '|', the second part. A read is given the
+// number, and the name is its answer.
 use namedict::NamedictNumbered;
 ghost use Prim.Native.Nat.{_≤_};
 ghost use lib.ListN.{length};
@@ -21,7 +22,7 @@ fn digit(b: u8) -> u64
     0
 }
 
-// Whether the part stands in s from `at` on.
+// Whether s has the part at `at`.
 fn stands(s: &[u8], at: usize, part: &[u8]) -> bool {
     if at > s.len() {
         return false;
@@ -104,7 +105,7 @@ fn call<'a>(
     read(kind, word, number, first, second, pages, lists)
 }
 
-// Whether the call of the line has the answer of the line.
+// Makes the call of the line. Returns whether it has the answer of the line.
 fn line(s: &[u8], pages: &mut [u8], lists: &mut [u8]) -> bool {
     if s.len() < 8 {
         return false;
@@ -126,7 +127,7 @@ fn line(s: &[u8], pages: &mut [u8], lists: &mut [u8]) -> bool {
     )
 }
 
-// How many of this line differ: 0, or 1 and it is printed.
+// 0 if the line has the right answer. Else prints the line and returns 1.
 fn differing(s: &[u8], pages: &mut [u8], lists: &mut [u8]) -> usize
     ensures { λ r. ⌜ r ≤ 1 ⌝ }
 {
@@ -148,7 +149,7 @@ fn ended(name: &[u8], done: usize, wrong: usize) {
     io::write_all(1, b" differ\n");
 }
 
-// Runs the lines, and prints how many there are and each that differs.
+// Runs the lines. Prints each that differs, and how many lines there are.
 pub fn run(name: &[u8], calls: &[u8], pages: &mut [u8], lists: &mut [u8]) {
     let mut i = 0;
     let mut done = 0;

@@ -1,4 +1,4 @@
-// The search for a name: its head, where its kind has heads, then its key in the kind's main dictionary. The memory may be anybody's.
+// The search for a name: its head, where its kind has heads, then its key in the kind's main dictionary. The memory may hold any bytes.
 use bytes_dictionary::EntryId;
 use bytes_index::Probe;
 use layout::Sizes;
@@ -30,7 +30,7 @@ pub enum Search {
     Bad,
 }
 
-// What is told of a name that was searched for. ASCII: all of its bytes were met, and each is a character by itself.
+// What the search says of a name. `ascii`: the search has seen every byte of the name, and all are ASCII.
 pub struct Sought {
     pub found: Search,
     pub ascii: bool,
@@ -111,7 +111,8 @@ fn find_tagged(pages: &[u8], lists: &[u8], s: Sizes, text: &[u8], tag: &[u8]) ->
     find_key(pages, lists, s, TAGGED, h, Mode::Tag, tag, text)
 }
 
-// The local number of a name of legal shape, if it is legal, and whether it is ASCII. Both parts have one lifetime, since the rest may lie in either.
+// The local number of a name of legal shape, and whether it is ASCII. The number is right if the text is legal too. Both parts have one lifetime, since
+// the rest may lie in either.
 pub fn find_name<'a>(
     pages: &[u8],
     lists: &[u8],
@@ -134,7 +135,7 @@ pub fn find_name<'a>(
         };
     }
     if kind == TAGGED {
-        // Most labels have a letter that is not ASCII.
+        // Most labels have a letter that is not ASCII, so a test for ASCII would not pay.
         return Sought {
             found: find_tagged(pages, lists, s, first, second),
             ascii: false,
