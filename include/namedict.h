@@ -4,13 +4,13 @@
  * are uint64_t.
  *
  * The caller's duties, which nothing checks:
- * - a pointer and its length name memory that is there. With a length of 0 a
+ * - a pointer and its length describe memory that exists. With a length of 0 a
  *   pointer may be any address but null: NAMEDICT_EMPTY is one;
  * - the slices given to one call never overlap;
  * - while a call runs, nothing else writes its slices, and nothing else reads
  *   those that it may write.
  *
- * A field `refusal` is 0 where the call was accepted, else one of the numbers
+ * A field `refusal` is 0 if the call was accepted, else one of the numbers
  * below. With a refusal every other field is 0, and all lent memory is as it
  * was. A field that an answer does not have is 0.
  */
@@ -71,28 +71,29 @@ typedef struct { uint64_t refusal, text_len, tag_len; }                 namedict
 #define NAMEDICT_LIST_BYTES(page_count, list_length, block_count) \
     ((size_t)8 * (64 + (size_t)(page_count) + 18 * (size_t)(list_length) + 5 * (size_t)(block_count)))
 
-/* Makes the memory a dictionary with no names. 0 done; refusals 1, 2.
+/* Makes the memory a dictionary with no names. Returns 0, or refusal 1 or 2.
  * Page width 13 to 20, pages 1 to 1,024, list length 1 to 1,048,576,
  * block width 4 to 24, blocks 1 to 4,096. */
 uint64_t namedict_open(uint8_t *pages, size_t pages_len, uint8_t *lists, size_t lists_len,
                        uint64_t page_width, uint64_t page_count, uint64_t list_length,
                        uint64_t block_width, uint64_t block_count);
 
-/* Gives a name its number: fresh, or known already. An empty part may
- * be NAMEDICT_EMPTY, 0 but not NULL, 0. Refusals 3 to 10. */
+/* Gives a name its number: fresh, or known already. For an empty part give
+ * NAMEDICT_EMPTY, 0 and never NULL, 0. Refusals 3 to 10. */
 namedict_numbered namedict_add(uint8_t *pages, size_t pages_len, uint8_t *lists, size_t lists_len,
                                uint64_t kind, const uint8_t *first, size_t first_len,
                                const uint8_t *second, size_t second_len);
 
-/* The number that a name has: known, or none. An empty part may
- * be NAMEDICT_EMPTY, 0 but not NULL, 0. Refusals 3 to 7. */
+/* The number that a name has: known, or none. For an empty part give
+ * NAMEDICT_EMPTY, 0 and never NULL, 0. Refusals 3 to 7. */
 namedict_numbered namedict_find(const uint8_t *pages, size_t pages_len,
                                 const uint8_t *lists, size_t lists_len,
                                 uint64_t kind, const uint8_t *first, size_t first_len,
                                 const uint8_t *second, size_t second_len);
 
 /* The name that has a number: its kind, both lengths, and its parts one after
- * the other at the buffer's start, the rest untouched; or none, touching nothing.
+ * the other at the buffer's start. The rest of the buffer stays as it was. With
+ * the answer none all of it does.
  * Refusals 3, 11. */
 namedict_name namedict_read(const uint8_t *pages, size_t pages_len,
                             const uint8_t *lists, size_t lists_len,
@@ -102,12 +103,12 @@ namedict_name namedict_read(const uint8_t *pages, size_t pages_len,
 namedict_counted namedict_count(const uint8_t *pages, size_t pages_len,
                                 const uint8_t *lists, size_t lists_len, uint64_t kind);
 
-/* ---- the leaf rules. No bytes may be NAMEDICT_EMPTY, 0 but not NULL, 0. */
+/* ---- the leaf rules. For no bytes give NAMEDICT_EMPTY, 0 and never NULL, 0. */
 
 /* 1 if the bytes are UTF-8 by RFC 3629, else 0. */
 uint64_t namedict_is_text(const uint8_t *bytes, size_t bytes_len);
 
-/* The length of an IRI's head: up to and with its last '/' or '#', 0 with neither. */
+/* The length of an IRI's head: up to and including its last '/' or '#'; 0 if it has neither. */
 uint64_t namedict_split_iri(const uint8_t *iri, size_t iri_len);
 
 /* A head's number in 1 to 4 bytes, at the buffer's start. Refusals 12, 11. */

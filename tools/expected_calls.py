@@ -1,7 +1,7 @@
 #!/usr/bin/env python3
-"""Prints the calls that the program `calls` is to make, its file `stdin`, or what it must then write, its file `stdout`.
+"""Prints a file of the program `calls`: its `stdin`, which has the calls, or its `stdout`, which has what it must print.
 
-Each call of the lists below becomes a line of `stdin`, and what is to be printed for it goes to `stdout`. The heads of
+Each call of the lists below becomes a line of `stdin`, and what must be printed for it goes to `stdout`. The heads of
 crates/calls/src/run.rt and script.rt say how the lines of `stdin` are written. The answers come from document 01's
 rules, as tools/rules.py has them.
 

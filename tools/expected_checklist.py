@@ -1,7 +1,7 @@
 #!/usr/bin/env python3
-"""Prints what the program `checklist` must write on its sample: its file `stdout` is this program's output.
+"""Prints what the program `checklist` must print for its sample: its file `stdout`.
 
-The answers come from document 01's rules as tools/rules.py has them; the lines from the README's description of the commands.
+The answers come from document 01's rules, as tools/rules.py has them. The form of the lines comes from the README.
 
   python3 tools/expected_checklist.py > crates/checklist/stdout
 """

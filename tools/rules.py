@@ -1,5 +1,5 @@
-"""Document 01's rules, written down a second time for the programs that compute expected output: the names, the pages, the blocks and the
-refusals are kept in Python's own lists and sets, and no memory is laid out.
+"""Document 01's rules in Python, for the programs that compute expected output. Names, pages and blocks are kept in Python's own
+collections; no memory is laid out.
 """
 import itertools
 import re

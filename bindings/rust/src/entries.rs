@@ -1,10 +1,10 @@
 //! The exported entries, declared as `include/namedict.h` declares them, behind functions on
 //! slices. All unsafe code is here.
 //!
-//! Why each call keeps the caller's duties: a slice's pointer is not null and its length is true;
-//! a slice that is written is a `&mut`, so no other overlaps it. Those that are only read are `&`
-//! in the library too, and may share memory. No content of a slice is wrong: the library answers
-//! or refuses.
+//! Why each call keeps the caller's duties: a slice's pointer is not null and its length is right;
+//! a slice that is written is a `&mut`, so no other overlaps it. Slices that are only read are `&`
+//! in the library too, and may share memory. A slice may hold any bytes: the library answers or
+//! refuses.
 
 use crate::{Name, Sizes};
 

@@ -44,7 +44,8 @@ pub use sizes::Sizes;
 /// A dictionary in two pieces of memory: its own (`Vec<u8>`), lent (`&mut [u8]`), or lent for
 /// reading alone (`&[u8]`).
 ///
-/// A copy of the memory is the same dictionary and goes on by itself. A refused call changes nothing.
+/// A copy of the memory is a dictionary with the same names, and it changes independently. A refused
+/// call changes nothing.
 #[derive(Clone)]
 pub struct Dictionary<M = Vec<u8>> {
     pages: M,
@@ -96,8 +97,8 @@ impl<M: AsRef<[u8]> + AsMut<[u8]>> Dictionary<M> {
 }
 
 impl<M: AsRef<[u8]>> Dictionary<M> {
-    /// Goes on with memory in which a dictionary was opened, or with a copy of it. The calls give
-    /// refusal 3 on memory that is no dictionary's, or some answer where they cannot tell.
+    /// Uses memory in which a dictionary was opened, or a copy of it. On memory that is no
+    /// dictionary's the calls give refusal 3, or some answer if they cannot tell.
     pub fn over(pages: M, lists: M) -> Self {
         Self { pages, lists }
     }

@@ -1,3 +1,5 @@
+//! The refusals, with their numbers and their words.
+
 use std::error::Error;
 use std::fmt;
 
@@ -51,7 +53,7 @@ impl Refusal {
         (Refusal::CutForm, "cut form"),
     ];
 
-    /// The refusal that an entry's number says; 0 says none.
+    /// The refusal that an entry's number means; 0 means none.
     pub(crate) fn check(number: u64) -> Result<(), Refusal> {
         match number {
             0 => Ok(()),

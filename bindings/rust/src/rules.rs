@@ -1,8 +1,8 @@
 //! The leaf rules, which need no dictionary: which bytes are text, where an IRI splits, how a head's
 //! number (a frequent id) and a tagged string are stored.
 //!
-//! A form is put at the start of the caller's buffer and lent back; the rest of the buffer stays as
-//! it was, and so does all of it where the call is refused.
+//! A form is put at the start of the caller's buffer and lent back. The rest of the buffer stays as
+//! it was. If the call is refused, the whole buffer stays as it was.
 //!
 //! ```
 //! use namedict::rules;
@@ -37,7 +37,8 @@ pub fn is_text(bytes: &[u8]) -> bool {
     entries::is_text(bytes) != 0
 }
 
-/// An IRI's head, up to and with its last '/' or '#', and its rest. With neither the head is empty.
+/// An IRI's head, up to and including its last '/' or '#', and its rest. With neither the head is
+/// empty.
 ///
 /// ```
 /// use namedict::rules::split_iri;

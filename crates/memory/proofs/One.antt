@@ -152,7 +152,7 @@ one-state s s′ st st′ pages lists S S′ =
     (e, state s st st′ pages lists S (subst (λ (z : Sizes). Stands z st′ pages lists) (sym e) S′))
 
 module _ (s s′ : Sizes) (st st′ : State) (pages lists : Bytes) (S : Stands s st pages lists) (S′ : Stands s′ st′ pages lists) where
-  -- All living names in the order of their adds, across the kinds;
+  -- All names in the order of their adds, across the kinds;
   pub one-order : ordered st ≡ ordered st′
   one-order = ap ordered (one-state s s′ st st′ pages lists S S′ .1)
 
