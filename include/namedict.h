@@ -8,7 +8,8 @@
  *   pointer may be any address but null: NAMEDICT_EMPTY is one;
  * - the slices given to one call never overlap;
  * - while a call runs, nothing else writes its slices, and nothing else reads
- *   those that it may write.
+ *   those that it may write;
+ * - between two calls nobody else writes the dictionary's bytes.
  *
  * A field `refusal` is 0 if the call was accepted, else one of the numbers
  * below. With a refusal every other field is 0, and all lent memory is as it

@@ -1,7 +1,7 @@
 -- The space that the dictionaries share, by document 01's section Pages. Assumes nothing.
 use Prim.Native.Nat.{ℕ, zero, suc, _+_, _^_}
 use mathlib.Core.Bool.{Bool, _&&_, cond}
-use lib.Dec.{eqb, leb, ltb}
+use lib.Dec.{leb, ltb}
 pub use Rattle.slices.specs.Updates.{upd}
 use Rattle.layout.specs.declared.Sizes.{Sizes}
 use Rattle.layout.specs.Sizes.{dictionaries}

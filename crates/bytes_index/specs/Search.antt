@@ -12,7 +12,6 @@ use Rattle.fnv.specs.Fnv.{fnvOf}
 use Rattle.parts.specs.declared.Mode.{Mode}
 use Rattle.parts.specs.Parts.{bytesOf}
 use Rattle.layout.specs.declared.Sizes.{Sizes}
-use Rattle.layout.specs.Sizes.{InRange, dictionaries, pageBytes, listBytes}
 use Rattle.layout.specs.Fields.{entryAt, placeAt}
 use Rattle.bytes_index.specs.Entries.{Entries, Addresses, Met, FreeAt, Holds, Misses}
 use Rattle.bytes_index.specs.declared.Probe.{Probe}

@@ -2,7 +2,7 @@
 use mathlib.Core.Path.{_≡_, refl}
 use mathlib.Core.List.{[], _∷_, _++_}
 use Prim.Native.Nat.{ℕ, _+_, _*_, _%_, _^_, _<_, _≤_}
-use lib.Bits.{bitAnd, bitOr, bitXor, and-le-l, and-le-r, or-add-and}
+use lib.Bits.{bitOr, bitXor, and-le-l, and-le-r, or-add-and}
 use lib.ListN.{length, getD, drop, drop-of-length-le}
 use lib.Seq.{drop-cons}
 use native.Mathlib.Numerals.{add-one}

@@ -8,7 +8,7 @@
 --   then, for each kind, b words: the global block + 1 of each local block
 --   then b words: the kind and local block of each global block
 -- Every other word is initialised to zero and never written.
-use Prim.Native.Nat.{ℕ, _+_, _-_, _*_, _/_, _%_}
+use Prim.Native.Nat.{ℕ, _+_, _*_, _/_, _%_}
 use Rattle.layout.specs.declared.Sizes.{Sizes}
 use Rattle.layout.specs.Sizes.{kinds, dictionaries}
 

@@ -1,5 +1,5 @@
 -- Which memory is a dictionary's, judged by its header. Assumes nothing.
-use Prim.Native.Nat.{ℕ, _+_, _*_, _<_, _≤_}
+use Prim.Native.Nat.{ℕ, _<_, _≤_}
 use mathlib.Core.Path.{_≡_}
 use mathlib.Core.Bool.{true, false, not, cond}
 use lib.Dec.{eqb, ltb}

@@ -1,3 +1,4 @@
+-- The definitions of this crate, by subject.
 pub mod Names
 pub mod Answers
 pub mod Kinds

@@ -1,3 +1,4 @@
+-- The definitions of this crate, by subject.
 pub mod Numbers
 pub mod Answers
 pub mod Returned

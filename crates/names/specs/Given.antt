@@ -1,11 +1,9 @@
 -- The head and the rest of a name, as the steps of an entry are given them. Assumes nothing.
-use Prim.Native.Nat.{ℕ, zero, suc, _<_, _≤_}
+use Prim.Native.Nat.{ℕ, zero, suc}
 use mathlib.Core.Path.{_≡_}
 use lib.ListN.{length, drop}
 use Rattle.slices.specs.Bytes.{Bytes}
 use Rattle.ranked_pair_iri_dv_dict.specs.Split.{headLength}
-use Rattle.layout.specs.declared.Sizes.{Sizes}
-use Rattle.layout.specs.Sizes.{InRange, kinds, pageBytes, listBytes}
 use Rattle.model.specs.Names.{Name}
 use Rattle.model.specs.Kinds.{row}
 

@@ -1,5 +1,4 @@
 -- What an entry that writes a form answers, and the buffer after it. Assumes nothing.
-use Prim.Native.Nat.{ℕ}
 use mathlib.Core.List.{_++_}
 use mathlib.Core.Option.{Option, none, some}
 use lib.ListN.{length, drop}

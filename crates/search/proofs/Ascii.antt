@@ -2,7 +2,7 @@
 use Prim.Native.Nat.{ℕ, zero, suc, _≤_, _<_}
 use mathlib.Core.Path.{_≡_, refl, sym, ap, subst, _∙_}
 use mathlib.Core.Bool.{true}
-use mathlib.Core.List.{[], _∷_, _++_}
+use mathlib.Core.List.{[], _∷_}
 use native.Mathlib.Omega.{arith}
 use borrow.Author.Tests.{le-leb}
 use lib.ListN.{length, take, drop, take-append-drop}
@@ -10,7 +10,7 @@ use lib.Seq.{take-all}
 use Rattle.slices.specs.Bytes.{Bytes}
 use Rattle.fnv.specs.Fnv.{bitsFrom}
 use Rattle.fnv.proofs.Laws.{bits-append, bits-least, bits-first}
-use Rattle.utf8.specs.Text.{within, charStart, firstOf, after, textFrom, isText}
+use Rattle.utf8.specs.Text.{charStart, firstOf, after, textFrom, isText}
 use Rattle.names.specs.Given.{headSize, restBehind}
 
 -- A byte below 0x80 is a character by itself.

@@ -1,7 +1,7 @@
 -- `sameBytes` answers true exactly if both lists are equal. Assumes nothing.
 use Prim.Native.Nat.{_<_}
 use mathlib.Core.Path.{_≡_, refl, sym}
-use mathlib.Core.Bool.{true, false, not, false≢true}
+use mathlib.Core.Bool.{true, false, false≢true}
 use mathlib.Core.List.{[], _∷_}
 use native.Mathlib.Omega.{arith}
 use lib.Dec.{eqb}

@@ -1,8 +1,8 @@
 -- An escaped tag is read back, and only an escaped tag scans well. Assumes nothing.
-use Prim.Native.Nat.{ℕ, zero, suc, _+_, _<_, _≤_}
-use mathlib.Core.Path.{_≡_, refl, sym, ap, _∙_}
+use Prim.Native.Nat.{ℕ, suc, _+_, _<_, _≤_}
+use mathlib.Core.Path.{_≡_, refl, ap}
 use mathlib.Core.Logic.{inl, inr}
-use mathlib.Core.Bool.{true, false, cond}
+use mathlib.Core.Bool.{true, false}
 use mathlib.Core.List.{[], _∷_, _++_}
 use native.Mathlib.Omega.{arith}
 use borrow.Author.Tests.{eqb-true}
@@ -11,10 +11,9 @@ use lib.ListN.{length, take, drop}
 use Rattle.slices.specs.Bytes.{Bytes}
 use Rattle.slices.proofs.Tests.{Split, split}
 use Rattle.parts.specs.Parts.{escape, escaped}
-use Rattle.string_dv_dict.specs.declared.Scan.{Scan}
 use Rattle.string_dv_dict.specs.declared.Scan.the-variants.{Whole, Escape, Bad}
 use Rattle.string_dv_dict.specs.Packed.{before, behind, unescaped}
-use Rattle.string_dv_dict.specs.Scans.{scanStep, scanFrom}
+use Rattle.string_dv_dict.specs.Scans.{scanFrom}
 
 -- No '>' stands in an escaped tag.
 pub read-before : (t x : Bytes) → (before (escaped t ++ 62 ∷ x) ≡ escaped t) × (behind (escaped t ++ 62 ∷ x) ≡ x)

@@ -1,9 +1,9 @@
 -- Reading after writing, at the same place and at another: shown once over the width n, then for words and quads. Assumes nothing.
-use mathlib.Core.Path.{_≡_, refl, sym, _∙_, ap}
+use mathlib.Core.Path.{_≡_, refl, _∙_, ap}
 use mathlib.Core.Logic.{_≢_}
 use Prim.Native.Nat.{ℕ, zero, suc, _+_, _*_, _/_, _%_, _^_, _≤_, _<_}
 use native.Mathlib.Omega.{arith}
-use native.Mathlib.Nat.{add-zero, pow-suc, mul-comm}
+use native.Mathlib.Nat.{add-zero, pow-suc}
 use native.Mathlib.Numerals.{towards-suc}
 use lib.ListN.{length, getD, set, length-set}
 use lib.Seq.{sets, length-sets, getD-set-same}

@@ -1,6 +1,5 @@
 -- Each command leads to a later word, and there are 1,000 words at the most. Assumes nothing.
 use Prim.Native.Nat.{_-_}
-use native.Mathlib.Omega.{arith}
 use borrow.Author.Needs.{needs}
 use Rattle.checklist.proofs.commands.Statement.{statement}
 use Rattle.checklist.proofs.commands.Tie as tie

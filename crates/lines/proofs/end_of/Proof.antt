@@ -1,7 +1,6 @@
 -- The place found lies between the start and the length. Assumes nothing.
-use Prim.Native.Nat.{_≤_, _+_, _-_}
+use Prim.Native.Nat.{_≤_, _-_}
 use borrow.Author.Needs.{needs}
-use native.Mathlib.Omega.{arith}
 use lib.ListN.{length}
 use Rattle.lines.proofs.end_of.Statement.{statement}
 use Rattle.lines.proofs.end_of.Tie as tie

@@ -1,10 +1,7 @@
 -- Each return by its law. Assumes nothing.
-use Prim.Native.Nat.{_*_, _<_, _≤_}
 use mathlib.Core.Path.{sym, _∙_}
-use native.Mathlib.Nat.{mod-lt}
-use native.Mathlib.Omega.{arith}
 use borrow.Author.Needs.{needs}
-use Rattle.meta_dv_dict.proofs.Answers.{held-below, number-fits, globals-past, globals-bad, globals-there}
+use Rattle.meta_dv_dict.proofs.Answers.{held-below, globals-past, globals-bad, globals-there}
 use Rattle.meta_dv_dict.proofs.Tags.{not-in}
 use Rattle.meta_dv_dict.proofs.local_to_global.Statement.{statement}
 use Rattle.meta_dv_dict.proofs.local_to_global.Tie as tie

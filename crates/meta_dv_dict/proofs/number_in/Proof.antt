@@ -1,6 +1,5 @@
 -- The product is small, and the number is the block's first with the rest. Assumes nothing.
 use Prim.Native.Nat.{_*_, _<_, _≤_}
-use mathlib.Core.Path.{refl}
 use native.Mathlib.Nat.{mod-lt}
 use native.Mathlib.Omega.{arith}
 use borrow.Author.Needs.{needs}

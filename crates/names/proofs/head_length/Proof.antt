@@ -1,6 +1,6 @@
 -- An IRI's head is what the split says; of another kind it is the whole first part. Assumes nothing.
 use mathlib.Core.Path.{_≡_, sym, subst}
-use Prim.Native.Nat.{ℕ, _≤_}
+use Prim.Native.Nat.{_≤_}
 use native.Mathlib.Omega.{arith}
 use borrow.Author.Needs.{needs}
 use lib.ListN.{length}

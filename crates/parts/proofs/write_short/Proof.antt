@@ -1,9 +1,7 @@
 -- A byte, and what has-stored behind it. Assumes nothing.
-use Prim.Native.Nat.{_≤_}
-use mathlib.Core.Path.{_≡_, ap, _∙_}
-use mathlib.Core.List.{[], _∷_, _++_}
+use mathlib.Core.Path.{ap, _∙_}
 use native.Mathlib.Omega.{arith}
-use lib.ListN.{length, length-append, length-set, length-take, length-drop}
+use lib.ListN.{length, length-set, length-take, length-drop}
 use lib.Seq.{length-sets}
 use borrow.Author.Needs.{needs}
 use Rattle.parts.proofs.Laws.{sets-behind}

@@ -1,6 +1,5 @@
 -- Each line lies in the bytes read, and the next begins behind it. Assumes nothing.
 use Prim.Native.Nat.{_≤_, _+_, _-_}
-use native.Mathlib.Omega.{arith}
 use lib.ListN.{length}
 use borrow.Author.Needs.{needs}
 use Rattle.checklist.proofs.input.each.Statement.{statement}

@@ -1,6 +1,5 @@
 -- The end found lies in the line. Assumes nothing.
 use Prim.Native.Nat.{_≤_, _-_}
-use native.Mathlib.Omega.{arith}
 use lib.ListN.{length}
 use borrow.Author.Needs.{needs}
 use Rattle.checklist.proofs.input.trimmed.Statement.{statement}

@@ -1,6 +1,5 @@
 -- The place found lies in the bytes read. Assumes nothing.
 use Prim.Native.Nat.{_≤_, _-_}
-use native.Mathlib.Omega.{arith}
 use lib.ListN.{length}
 use borrow.Author.Needs.{needs}
 use Rattle.checklist.proofs.input.whole.Statement.{statement}

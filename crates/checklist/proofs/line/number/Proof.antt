@@ -1,6 +1,5 @@
 -- The digits lie in the line, and their value in 64 bits. Assumes nothing.
 use Prim.Native.Nat.{_≤_, _-_}
-use native.Mathlib.Omega.{arith}
 use lib.ListN.{length}
 use borrow.Author.Needs.{needs}
 use Rattle.checklist.proofs.line.number.Statement.{statement}

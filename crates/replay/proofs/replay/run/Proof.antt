@@ -2,7 +2,6 @@
 use Prim.Native.Nat.{_≤_, _+_, _-_}
 use mathlib.Core.Path.{_≡_}
 use borrow.Author.Needs.{needs}
-use native.Mathlib.Omega.{arith}
 use lib.ListN.{length}
 use Rattle.replay.proofs.replay.run.Statement.{statement}
 use Rattle.replay.proofs.replay.run.Tie as tie

@@ -1,7 +1,6 @@
 -- Only bytes that are there are compared. Assumes nothing.
 use Prim.Native.Nat.{_≤_, _+_, _-_}
 use borrow.Author.Needs.{needs}
-use native.Mathlib.Omega.{arith}
 use lib.ListN.{length}
 use Rattle.replay.proofs.replay.stands.Statement.{statement}
 use Rattle.replay.proofs.replay.stands.Tie as tie
