@@ -17,6 +17,24 @@ pub record Memory : Type 0 where
   pub pages : Bytes
   pub lists : Bytes
 
+-- ---- calls in turn, newest first. `One m e z` says what one call does: it gets the memory m and leaves z
+
+-- The calls begin with m and leave z. Each gets the memory as the call before left it.
+abbrev pub InTurn : {E : Type 0} → (Memory → E → Memory → Type 0) → Memory → List E → Memory → Type 0
+InTurn One m [] z = z ≡ m
+InTurn One m (e ∷ es) z = (y : Memory) × InTurn One m es y × One y e z
+
+-- The bytes that the sizes need are the same. The slices may be longer or shorter. If those of m are long enough, those of m′ are too.
+pub record SameDictionary (s : Sizes) (m m′ : Memory) : Type 0 where
+  pub pages-same : take (pageBytes s) (m′ .pages) ≡ take (pageBytes s) (m .pages)
+  pub lists-same : take (listBytes s) (m′ .lists) ≡ take (listBytes s) (m .lists)
+
+-- One call after m that brings slices with the same dictionary, and leaves z.
+abbrev pub Bringing : {E : Type 0} → (Memory → E → Memory → Type 0) → Sizes → Memory → E → Memory → Type 0
+Bringing One s m e z = (y : Memory) × SameDictionary s m y × One y e z
+
+-- ---- calls with their answers
+
 -- One call: the memory before, the call with its answer, the memory after.
 abbrev pub Called : Memory → Event → Memory → Type 0
 Called m (add a r) m′ = AddPost (m .pages) (m .lists) a r (m′ .pages) (m′ .lists)
@@ -24,26 +42,15 @@ Called m (find a r) m′ = FindPost (m .pages) (m .lists) a r (m′ .pages) (m�
 Called m (read n x r y) m′ = ReadPost (m .pages) (m .lists) n x r y (m′ .pages) (m′ .lists)
 Called m (count k r) m′ = CountPost (m .pages) (m .lists) k r (m′ .pages) (m′ .lists)
 
--- The calls of the list, newest first, begin with the memory m and leave z.
 abbrev pub Calls : Memory → List Event → Memory → Type 0
-Calls m [] z = z ≡ m
-Calls m (e ∷ es) z = (y : Memory) × Calls m es y × Called y e z
+Calls m es z = InTurn Called m es z
 
--- ---- slices that a call brings
-
--- The bytes that the sizes need are the same. The slices may be longer or shorter. If those of m are long enough, those of m′ are too.
-pub record SameDictionary (s : Sizes) (m m′ : Memory) : Type 0 where
-  pub pages-same : take (pageBytes s) (m′ .pages) ≡ take (pageBytes s) (m .pages)
-  pub lists-same : take (listBytes s) (m′ .lists) ≡ take (listBytes s) (m .lists)
-
--- One call after m: it brings slices with the same dictionary, and leaves z.
+-- Each brings slices with the dictionary as the call before left it.
 abbrev pub Brings : Sizes → Memory → Event → Memory → Type 0
-Brings s m e z = (y : Memory) × SameDictionary s m y × Called y e z
+Brings s m e z = Bringing Called s m e z
 
--- The calls of the list, newest first, begin with m and leave z. Each brings slices with the dictionary as the call before left it.
 abbrev pub Brought : Sizes → Memory → List Event → Memory → Type 0
-Brought s m [] z = z ≡ m
-Brought s m (e ∷ es) z = (y : Memory) × Brought s m es y × Brings s y e z
+Brought s m es z = InTurn (Brings s) m es z
 
 -- ---- after the list
 

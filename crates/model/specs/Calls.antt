@@ -27,8 +27,8 @@ pub data Event : Type 0 where
 
 -- ---- what is read off a list of events
 
--- e is an event of es, and the events before it are xs.
-abbrev pub At : Event → List Event → List Event → Type 0
+-- e is in the list es, and those before it are xs.
+abbrev pub At : {E : Type 0} → E → List E → List E → Type 0
 At e xs [] = ⊥
 At e xs (x ∷ es) = ((e ≡ x) × (xs ≡ es)) ⊎ At e xs es
 

@@ -1,16 +1,16 @@
 -- The numbers that exported calls returned tell answers, and the promises hold of these answers. Assumes nothing.
 use Prim.Native.Nat.{ℕ}
-use mathlib.Core.Path.{_≡_, refl, sym, ap, subst, _∙_}
+use mathlib.Core.Path.{_≡_, sym, ap, subst, _∙_}
 use mathlib.Core.Logic.{inl, inr}
 use mathlib.Core.List.{List, [], _∷_, map}
 use Rattle.slices.specs.Bytes.{Bytes}
 use Rattle.layout.specs.declared.Sizes.{Sizes}
+use Rattle.model.specs.Calls.{At}
 use Rattle.memory.specs.Promises.{OpenPost, AddPost, FindPost, ReadPost, CountPost}
 use Rattle.memory.specs.Lists.{Memory, Called, Brought}
 use Rattle.namedict.specs.Numbers.{openNumber, addNumbers, findNumbers, nameNumbers, countNumbers}
 use Rattle.namedict.specs.Answers.{openOf, addOf, findOf, readOf, countOf}
-use Rattle.namedict.specs.Returned.{OpenReturned, Returned, add, find, read, count, Exported, ExportedCalls, ExportedBrings, ExportedBrought, eventOf}
-use Rattle.namedict.specs.Demand3.{CallAt}
+use Rattle.namedict.specs.Returned.{OpenReturned, Returned, add, find, read, count, Exported, ExportedBrings, ExportedBrought, eventOf}
 use Rattle.namedict.proofs.Tell.{open-back, add-back, find-back, read-back, count-back}
 
 -- ---- one answer: its numbers, the answer back from them, and what is promised of it
@@ -60,17 +60,9 @@ calls-tell s m z (e ∷ es) c =
     let b : ExportedBrings s (c .0) e z = c .2 in
     (c .0, calls-tell s m (c .0) es (c .1), (b .0, b .1, call-tells (b .0) z e (b .2)))
 
-pub exact-at : (s : Sizes) (m z : Memory) (e : Returned) (xs es : List Returned) → ExportedBrought s m es z → CallAt e xs es → Exact e
+pub exact-at : (s : Sizes) (m z : Memory) (e : Returned) (xs es : List Returned) → ExportedBrought s m es z → At e xs es → Exact e
 exact-at s m z e xs [] c p = absurd p
 exact-at s m z e xs (x ∷ es) c (inl p) =
     let b : ExportedBrings s (c .0) x z = c .2 in
     subst Exact (sym (p .0)) (exact-by (b .0) z x (b .2))
 exact-at s m z e xs (x ∷ es) c (inr p) = exact-at s m (c .0) e xs es (c .1) p
-
--- A call that gets the memory as the one before left it.
-pub as-left : (s : Sizes) (m z : Memory) (e : Returned) → Exported m e z → ExportedBrings s m e z
-as-left s m z e c = (m, record { pages-same = refl; lists-same = refl }, c)
-
-pub all-as-left : (s : Sizes) (m z : Memory) (es : List Returned) → ExportedCalls m es z → ExportedBrought s m es z
-all-as-left s m z [] c = c
-all-as-left s m z (e ∷ es) c = (c .0, all-as-left s m (c .0) es (c .1), as-left s (c .0) z e (c .2))

@@ -14,18 +14,19 @@ use Rattle.model.specs.Answers.{AddAnswer, FindAnswer, CountAnswer}
 use Rattle.model.specs.Calls.{Event, At, SaidFresh, Gave, Accepted, Added, nothing, Given, Issued, ifFresh, freshKinds, howMany, Demand3}
 use Rattle.memory.specs.Lists.{Memory}
 use Rattle.memory.proofs.Brought.{brought-demand-3}
+use Rattle.memory.proofs.Demand3.{all-as-left}
 use Rattle.namedict.specs.declared.NamedictNumbered.{NamedictNumbered}
 use Rattle.namedict.specs.declared.NamedictName.{NamedictName}
 use Rattle.namedict.specs.declared.NamedictCounted.{NamedictCounted}
 use Rattle.namedict.specs.Numbers.{addNumbers, findNumbers, nameNumbers, countNumbers}
 use Rattle.namedict.specs.Answers.{refusalOf, addOf, findOf, readOf, countOf}
-use Rattle.namedict.specs.Returned.{OpenReturned, Returned, add, find, read, count, ExportedCalls, ExportedBrings, ExportedBrought, eventOf}
-use Rattle.namedict.specs.Demand3.{CallAt, GaveNumber, GaveFresh, ReturnedTo, GivenNumber, IssuedNumber, kindsOfFresh, CountAfter, NameAfter, NoneAfter, Demand3InNumbers}
-use Rattle.namedict.proofs.Calls.{open-tells, calls-tell, exact-at, all-as-left}
+use Rattle.namedict.specs.Returned.{OpenReturned, Returned, add, find, read, count, Exported, ExportedCalls, ExportedBrings, ExportedBrought, eventOf}
+use Rattle.namedict.specs.Demand3.{GaveNumber, GaveFresh, ReturnedTo, GivenNumber, IssuedNumber, kindsOfFresh, CountAfter, NameAfter, NoneAfter, Demand3InNumbers}
+use Rattle.namedict.proofs.Calls.{open-tells, calls-tell, exact-at}
 
 -- ---- what is read off the calls, and off their answers
 
-called-at : (e : Returned) (xs es : List Returned) → CallAt e xs es → At (eventOf e) (map eventOf xs) (map eventOf es)
+called-at : (e : Returned) (xs es : List Returned) → At e xs es → At (eventOf e) (map eventOf xs) (map eventOf es)
 called-at e xs [] p = absurd p
 called-at e xs (x ∷ es) (inl p) = inl (ap eventOf (p .0), ap (map eventOf) (p .1))
 called-at e xs (x ∷ es) (inr p) = inr (called-at e xs es p)
@@ -119,9 +120,9 @@ module _ (s : Sizes) (pages lists : Bytes) (m : Memory) (O : OpenReturned s page
     }
 
   pub demand-3-in-numbers : (es : List Returned) (z : Memory) → ExportedCalls m es z → Demand3InNumbers s es
-  demand-3-in-numbers es z c = brought-demand-3-in-numbers es z (all-as-left s m z es c)
+  demand-3-in-numbers es z c = brought-demand-3-in-numbers es z (all-as-left Exported s m z es c)
 
-  -- A count or a read after the list makes a longer list. By `as-left` of Calls.antt it may get the memory as the list left it.
+  -- A count or a read after the list makes a longer list. By `as-left` of memory it may get the memory as the list left it.
   module _ (es : List Returned) (y z : Memory) (c : ExportedBrought s m es y) where
     pub count-after : (k : ℕ) (r : NamedictCounted) → ExportedBrings s y (count k r) z → CountAfter es k r
     count-after k r d = brought-demand-3-in-numbers (count k r ∷ es) z (y, c, d) .counts es k r (inl (refl, refl))

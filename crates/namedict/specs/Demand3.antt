@@ -12,18 +12,13 @@ use Rattle.layout.specs.declared.Sizes.{Sizes}
 use Rattle.layout.specs.Sizes.{kinds}
 use Rattle.meta_dv_dict.specs.Rule.{blockRule}
 use Rattle.model.specs.Names.{Name, size}
-use Rattle.model.specs.Calls.{howMany}
+use Rattle.model.specs.Calls.{At, howMany}
 use Rattle.namedict.specs.declared.NamedictNumbered.{NamedictNumbered}
 use Rattle.namedict.specs.declared.NamedictName.{NamedictName}
 use Rattle.namedict.specs.declared.NamedictCounted.{NamedictCounted}
 use Rattle.namedict.specs.Returned.{Returned, add, find, read, count}
 
 -- ---- what is read off a list of calls
-
--- e is a call of es, and the calls before it are xs.
-abbrev pub CallAt : Returned → List Returned → List Returned → Type 0
-CallAt e xs [] = ⊥
-CallAt e xs (x ∷ es) = ((e ≡ x) × (xs ≡ es)) ⊎ CallAt e xs es
 
 -- An add was not refused and was given the number n; then: it also said fresh, which is the word 1.
 abbrev pub GaveNumber : NamedictNumbered → ℕ → Type 0
@@ -80,26 +75,26 @@ NoneAfter xs n b r c =
 
 pub record Demand3InNumbers (s : Sizes) (es : List Returned) : Type 0 where
   -- Two adds that were given numbers, one before the other, got the same number exactly when kind and both parts are equal.
-  pub same : (xs : List Returned) (a b : Name) (r : NamedictNumbered) (n : ℕ) → CallAt (add a r) xs es
+  pub same : (xs : List Returned) (a b : Name) (r : NamedictNumbered) (n : ℕ) → At (add a r) xs es
       → r .refusal ≡ 0 → GivenNumber b n xs → (r .number ≡ n) ↔ (a ≡ b)
   -- A name's first such add said fresh,
-  pub first : (xs : List Returned) (a : Name) (r : NamedictNumbered) → CallAt (add a r) xs es
+  pub first : (xs : List Returned) (a : Name) (r : NamedictNumbered) → At (add a r) xs es
       → r .refusal ≡ 0 → ((n : ℕ) → ¬ GivenNumber a n xs) → r .word ≡ 1
   -- later ones known;
-  pub later : (xs : List Returned) (a : Name) (r : NamedictNumbered) (n : ℕ) → CallAt (add a r) xs es
+  pub later : (xs : List Returned) (a : Name) (r : NamedictNumbered) (n : ℕ) → At (add a r) xs es
       → r .refusal ≡ 0 → GivenNumber a n xs → r ≡ record { refusal = 0; word = 2; number = n }
   -- an accepted find gave that number after it,
-  pub find-after : (xs : List Returned) (a : Name) (r : NamedictNumbered) (n : ℕ) → CallAt (find a r) xs es
+  pub find-after : (xs : List Returned) (a : Name) (r : NamedictNumbered) (n : ℕ) → At (find a r) xs es
       → r .refusal ≡ 0 → GivenNumber a n xs → r ≡ record { refusal = 0; word = 2; number = n }
   -- and none before it or without one.
-  pub find-before : (xs : List Returned) (a : Name) (r : NamedictNumbered) → CallAt (find a r) xs es
+  pub find-before : (xs : List Returned) (a : Name) (r : NamedictNumbered) → At (find a r) xs es
       → r .refusal ≡ 0 → ((n : ℕ) → ¬ GivenNumber a n xs) → r ≡ record { refusal = 0; word = 0; number = 0 }
   -- The n-th fresh name of a kind has the number that the block rule gives from the kinds of the fresh names, in order.
-  pub in-order : (xs : List Returned) (a : Name) (r : NamedictNumbered) → CallAt (add a r) xs es
+  pub in-order : (xs : List Returned) (a : Name) (r : NamedictNumbered) → At (add a r) xs es
       → r .refusal ≡ 0 → r .word ≡ 1 → blockRule s (kindsOfFresh xs) (a .kind) ≡ some (r .number)
   -- A count of a kind gives how many adds of the kind had said fresh by then.
-  pub counts : (xs : List Returned) (k : ℕ) (r : NamedictCounted) → CallAt (count k r) xs es → CountAfter xs k r
+  pub counts : (xs : List Returned) (k : ℕ) (r : NamedictCounted) → At (count k r) xs es → CountAfter xs k r
   -- A read gives exactly its name for each number issued by then, if the buffer is long enough,
-  pub read-name : (xs : List Returned) (n : ℕ) (b c : Bytes) (r : NamedictName) → CallAt (read n b r c) xs es → NameAfter xs n b r c
+  pub read-name : (xs : List Returned) (n : ℕ) (b c : Bytes) (r : NamedictName) → At (read n b r c) xs es → NameAfter xs n b r c
   -- and none for every other number.
-  pub read-none : (xs : List Returned) (n : ℕ) (b c : Bytes) (r : NamedictName) → CallAt (read n b r c) xs es → NoneAfter xs n b r c
+  pub read-none : (xs : List Returned) (n : ℕ) (b c : Bytes) (r : NamedictName) → At (read n b r c) xs es → NoneAfter xs n b r c

@@ -8,7 +8,7 @@ use Rattle.model.specs.Names.{Name}
 use Rattle.model.specs.Answers.{OpenAnswer, AddAnswer, FindAnswer, ReadAnswer, CountAnswer}
 use Rattle.model.specs.Calls.{Event}
 use Rattle.memory.specs.Promises.{OpenPost, AddPost, FindPost, ReadPost, CountPost}
-use Rattle.memory.specs.Lists.{Memory, SameDictionary}
+use Rattle.memory.specs.Lists.{Memory, InTurn, Bringing}
 use Rattle.namedict.specs.declared.NamedictNumbered.{NamedictNumbered}
 use Rattle.namedict.specs.declared.NamedictName.{NamedictName}
 use Rattle.namedict.specs.declared.NamedictCounted.{NamedictCounted}
@@ -51,16 +51,14 @@ Exported m (count k r) m′ = CountReturned (m .pages) (m .lists) k r (m′ .pag
 
 -- The calls of the list, newest first, begin with m and leave z. Each gets the memory as the call before left it.
 abbrev pub ExportedCalls : Memory → List Returned → Memory → Type 0
-ExportedCalls m [] z = z ≡ m
-ExportedCalls m (e ∷ es) z = (y : Memory) × ExportedCalls m es y × Exported y e z
+ExportedCalls m es z = InTurn Exported m es z
 
 -- The same if each call may bring other slices, with the dictionary as the call before left it.
 abbrev pub ExportedBrings : Sizes → Memory → Returned → Memory → Type 0
-ExportedBrings s m e z = (y : Memory) × SameDictionary s m y × Exported y e z
+ExportedBrings s m e z = Bringing Exported s m e z
 
 abbrev pub ExportedBrought : Sizes → Memory → List Returned → Memory → Type 0
-ExportedBrought s m [] z = z ≡ m
-ExportedBrought s m (e ∷ es) z = (y : Memory) × ExportedBrought s m es y × ExportedBrings s y e z
+ExportedBrought s m es z = InTurn (ExportedBrings s) m es z
 
 -- The call with the answer that its numbers tell.
 abbrev pub eventOf : Returned → Event
