@@ -6,7 +6,7 @@ fn marks(count: usize) -> Vec<u8> {
     b">\\".iter().copied().cycle().take(count).collect()
 }
 
-/// Packs into a buffer of just this length, and checks that the bytes behind stay as they were.
+/// Packs into a buffer longer than any form, and checks that the bytes behind the form stay as they were.
 fn packed(text: &[u8], tag: &[u8]) -> Vec<u8> {
     let mut buffer = vec![7; rules::LONGEST_FORM + 1];
     let form = rules::pack(text, tag, &mut buffer).unwrap().to_vec();

@@ -31,12 +31,12 @@ module _ (s : Sizes) (pages pages′ lists lists′ : Bytes) (same-pages : (i : 
   dict-same : (d : ℕ) (es : Entries) (c : ℕ) (t : ℕ → ℕ) → d < dictionaries → DictAt s pages lists d es c t → DictAt s pages′ lists′ d es c t
   dict-same d es c t dl D =
       record {
-        held = holds-agree s (λ a. getD pages a 0) (λ i. wordAt lists (entryAt s d i)) (λ j. quadAt lists (placeAt s d j)) (λ a. getD pages′ a 0)
+        holds = holds-agree s (λ a. getD pages a 0) (λ i. wordAt lists (entryAt s d i)) (λ j. quadAt lists (placeAt s d j)) (λ a. getD pages′ a 0)
             (λ i. wordAt lists′ (entryAt s d i)) (λ j. quadAt lists′ (placeAt s d j)) es
-            (λ i key u. own i (omega (arith, D .held .entry i key u .0)))
+            (λ i key u. own i (omega (arith, D .holds .entry i key u .0)))
             (λ j l. quad-agree lists′ lists (placeAt s d j) (λ k h. same (4 * placeAt s d j + k) (omega (arith, b))))
-            (λ i key u k l. bytes (D .held .entry i key u .1) k l)
-            (D .held);
+            (λ i key u k l. bytes (D .holds .entry i key u .1) k l)
+            (D .holds);
         counted = first-same (countAt d) (omega arith) ∙ D .counted;
         most = D .most;
         in-use = D .in-use;
@@ -76,7 +76,7 @@ module _ (s : Sizes) (pages pages′ lists lists′ : Bytes) (same-pages : (i : 
       page : (i : ℕ) → i < c → pageWordOf (wordAt lists′) (wordAt lists (entryAt s d i)) ≡ pageWordOf (wordAt lists) (wordAt lists (entryAt s d i))
       page i l =
           let u = D .in-use i l in
-          first-same (pageAt (pageOf (wordAt lists (entryAt s d i)))) (omega (arith, D .held .entry i (u .0) (u .1) .1 .paged))
+          first-same (pageAt (pageOf (wordAt lists (entryAt s d i)))) (omega (arith, D .holds .entry i (u .0) (u .1) .1 .paged))
 
   pub store-agree : (st : Store) → pageBytes s ≤ length pages′ → listBytes s ≤ length lists′ → StoreAt s st pages lists → StoreAt s st pages′ lists′
   store-agree st f g S =

@@ -12,7 +12,7 @@ use Rattle.words.proofs.Laws.{getD-setWord, getD-setQuad}
 use Rattle.fnv.specs.Fnv.{fnvOf}
 use Rattle.layout.specs.declared.Sizes.{Sizes}
 use Rattle.layout.specs.Sizes.{InRange, dictionaries, pageSize, pageBytes, listBytes}
-use Rattle.layout.specs.Fields.{currentAt, countAt, entryAt, orderAt, placeAt, dictAt}
+use Rattle.layout.specs.Fields.{untakenAt, currentAt, takenAt, countAt, entryAt, orderAt, placeAt, dictAt}
 use Rattle.layout.proofs.Ranges.{in-pages}
 use Rattle.layout.proofs.Places.{dict-from, dict-below}
 use Rattle.bytes_index.specs.Place.{placeAfter}
@@ -36,7 +36,7 @@ module _ (s : Sizes) (lists : Bytes) (d n at : ℕ) (stamp : ℕ) (key : Bytes) 
   off j (inr (inr h)) = off-behind s d n j nl dl h
 
   -- It is no word of a page, nor one of dictionary d's own.
-  apart : (j : ℕ) → Beside j → (page : ℕ) → page < s .n → (j ≢ 64 + page) × (j ≢ 18 + 4 * d) × (j ≢ 17 + 4 * d) × (j ≢ 6)
+  apart : (j : ℕ) → Beside j → (page : ℕ) → page < s .n → (j ≢ 64 + page) × (j ≢ takenAt d) × (j ≢ currentAt d) × (j ≢ untakenAt)
   apart j (inl h) page p = (omega arith, omega arith, omega arith, omega arith)
   apart j (inr (inl h)) page p = let q = h .2 in (omega (arith, h .1, h .3), omega (arith, h .1, h .3), omega (arith, h .3), omega (arith, h .1, h .3))
   apart j (inr (inr h)) page p = let b = dict-from s dictionaries in (omega (arith, b), omega (arith, b), omega (arith, b), omega (arith, b))

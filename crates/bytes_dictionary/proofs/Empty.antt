@@ -65,7 +65,7 @@ store-empty s pages lists r h z =
           let w = words-in s d r dl .0 in
           let b = dict-from s d in
           record {
-            held = holds-none s (λ a. getD pages a 0) (λ i. wordAt lists (entryAt s d i)) (λ j. quadAt lists (placeAt s d j))
+            holds = holds-none s (λ a. getD pages a 0) (λ i. wordAt lists (entryAt s d i)) (λ j. quadAt lists (placeAt s d j))
                 (λ j l. quad-in-zero lists (placeAt s d j) (z (placeAt s d j / 2) (omega (arith, b)) (omega (arith, w))));
             counted = z (countAt d) (omega arith) (omega (arith, list-bytes s));
             most = omega arith;

@@ -16,8 +16,8 @@ use Rattle.bytes_index.proofs.Filled.{filled-agree}
 abbrev pub SameBytes : Sizes → (ℕ → ℕ) → (ℕ → ℕ) → ℕ → ℕ → Type 0
 SameBytes s B B′ w n = (k : ℕ) → k < n → B′ (addressOf s w + k) ≡ B (addressOf s w + k)
 
-pub stands-agree : (s : Sizes) (B B′ : ℕ → ℕ) (w w′ : ℕ) (key : Bytes) → w′ ≡ w → SameBytes s B B′ w (length key) → Addresses s B w key → Addresses s B′ w′ key
-stands-agree s B B′ w w′ key q a t =
+pub addresses-agree : (s : Sizes) (B B′ : ℕ → ℕ) (w w′ : ℕ) (key : Bytes) → w′ ≡ w → SameBytes s B B′ w (length key) → Addresses s B w key → Addresses s B′ w′ key
+addresses-agree s B B′ w w′ key q a t =
     subst (λ (x : ℕ). Addresses s B′ x key) (sym q)
     (record { paged = t .paged; inside = t .inside; sized = t .sized; bytes = λ k l. a k l ∙ t .bytes k l })
 
@@ -28,7 +28,7 @@ pub holds-agree : (s : Sizes) (B W Q B′ W′ Q′ : ℕ → ℕ) (es : Entries
     → Holds s B W Q es → Holds s B′ W′ Q′ es
 holds-agree s B W Q B′ W′ Q′ es we qe be H =
     record {
-      entry = λ i key u. let h = H .entry i key u in (h .0, stands-agree s B B′ (W i) (W′ i) key (we i key u) (be i key u) (h .1));
+      entry = λ i key u. let h = H .entry i key u in (h .0, addresses-agree s B B′ (W i) (W′ i) key (we i key u) (be i key u) (h .1));
       names = λ j l. rw (qe j l) (H .names j l);
       met = λ i key u.
           let M = H .met i key u in

@@ -61,8 +61,8 @@ module _ (s : Sizes) (r : InRange s) (pages lists lists′ : Bytes) (d n page of
   parts : (pageOf new ≡ page) × (offsetOf new ≡ offset) × (sizeOf new ≡ length key)
   parts = entry-word page offset (length key) (omega (arith, P .paged, r .n)) (omega (arith, P .inside, page-size s r))
 
-  new-stands : Addresses s (λ a. getD (sets pages (page * pageSize s + offset) key) a 0) new key
-  new-stands =
+  new-addresses : Addresses s (λ a. getD (sets pages (page * pageSize s + offset) key) a 0) new key
+  new-addresses =
       let a : addressOf s new ≡ page * pageSize s + offset = λ i. parts .0 i * pageSize s + parts .1 i in
       let b = in-pages s page (offset + length key) (P .paged) (P .inside) in
       record {
@@ -98,15 +98,15 @@ module _ (s : Sizes) (r : InRange s) (pages lists lists′ : Bytes) (d n page of
     abbrev word : ℕ → ℕ
     word i = wordAt lists (entryAt s k i)
 
-    stands : (i : ℕ) → i < c → (x : Bytes) × Addresses s (λ a. getD pages a 0) (wordAt lists (entryAt s k i)) x
-    stands i l = let u = D .in-use i l in (u .0, D .held .entry i (u .0) (u .1) .1)
+    addressed : (i : ℕ) → i < c → (x : Bytes) × Addresses s (λ a. getD pages a 0) (wordAt lists (entryAt s k i)) x
+    addressed i l = let u = D .in-use i l in (u .0, D .holds .entry i (u .0) (u .1) .1)
 
     -- no byte of it is written
     bytes-same : (i : ℕ) (x : Bytes) → es i ≡ some x
         → SameBytes s (λ a. getD pages a 0) (λ a. getD (sets pages (page * pageSize s + offset) key) a 0) (wordAt lists (entryAt s k i)) (length x)
     bytes-same i x u b l =
         let w : ℕ = word i in
-        let T = D .held .entry i x u .1 in
+        let T = D .holds .entry i x u .1 in
         let L = D .lies i (below i x u) in
         getD-sets-out key pages (page * pageSize s + offset) (addressOf s w + b)
         (λ j h.
@@ -122,11 +122,11 @@ module _ (s : Sizes) (r : InRange s) (pages lists lists′ : Bytes) (d n page of
       lies-same : (i : ℕ) → i < c → Lies (wordAt lists′) k (wordAt lists′ (entryAt s k i))
       lies-same i l =
           let L = D .lies i l in
-          let K = P .kept k (pageOf (word i)) (stands i l .1 .paged) (L .owner) in
+          let K = P .kept k (pageOf (word i)) (addressed i l .1 .paged) (L .owner) in
           subst (Lies (wordAt lists′) k) (sym (word-same i l)) record { owner = K .owner ∙ L .owner; ends = le-le _ _ _ (L .ends) (K .used) }
 
       position-same : (i : ℕ) → i < c → positionOf (pageWordOf (wordAt lists′) (wordAt lists (entryAt s k i))) ≡ positionOf (pageWordOf (wordAt lists) (wordAt lists (entryAt s k i)))
-      position-same i l = P .kept k (pageOf (word i)) (stands i l .1 .paged) (D .lies i l .owner) .position
+      position-same i l = P .kept k (pageOf (word i)) (addressed i l .1 .paged) (D .lies i l .owner) .position
 
       rises-same : (i : ℕ) → i + 1 < c → LiesBefore (wordAt lists′) (wordAt lists′ (entryAt s k i)) (wordAt lists′ (entryAt s k (i + 1)))
       rises-same i l =
@@ -144,12 +144,12 @@ module _ (s : Sizes) (r : InRange s) (pages lists lists′ : Bytes) (d n page of
       → DictAt s (sets pages (page * pageSize s + offset) key) lists′ k es c t
   dict-other k es c t kl q D =
       record {
-        held = holds-agree s (λ a. getD pages a 0) (λ i. wordAt lists (entryAt s k i)) (λ j. quadAt lists (placeAt s k j))
+        holds = holds-agree s (λ a. getD pages a 0) (λ i. wordAt lists (entryAt s k i)) (λ j. quadAt lists (placeAt s k j))
             (λ a. getD (sets pages (page * pageSize s + offset) key) a 0) (λ i. wordAt lists′ (entryAt s k i)) (λ j. quadAt lists′ (placeAt s k j)) es
             (λ i x u. word-same k es c t kl D away i (below k es c t kl D i x u))
             (λ j l. S .places k j kl l (λ e. absurd (q e)))
             (bytes-same k es c t kl D)
-            (D .held);
+            (D .holds);
         counted = S .counts k kl q ∙ D .counted;
         most = D .most;
         in-use = D .in-use;
@@ -184,7 +184,7 @@ module _ (s : Sizes) (r : InRange s) (pages lists lists′ : Bytes) (d n page of
         let l : i < n = omega arith in
         let w : ℕ = wordAt lists (entryAt s d i) in
         let L = D .lies i l in
-        let p : pageOf w < s .n = stands d es n t dl D i l .1 .paged in
+        let p : pageOf w < s .n = addressed d es n t dl D i l .1 .paged in
         subst (λ (x : ℕ). LiesBefore (wordAt lists′) x (wordAt lists′ (entryAt s d n))) (sym (word-same d es n t dl D own i l))
         (subst (LiesBefore (wordAt lists′) w) (sym (S .entry))
         (⊎-elim (λ h. inl (lt-both _ _ _ _ (position-same d es n t dl D own i l) (ap positionOf new-page) h))
@@ -201,17 +201,17 @@ module _ (s : Sizes) (r : InRange s) (pages lists lists′ : Bytes) (d n page of
         → DictAt s (sets pages (page * pageSize s + offset) key) lists′ d (upd es n (some key)) (n + 1) (upd t n stamp)
     dict-own later M =
         record {
-          held = holds-more s (λ a. getD pages a 0) (λ i. wordAt lists (entryAt s d i)) (λ j. quadAt lists (placeAt s d j))
+          holds = holds-more s (λ a. getD pages a 0) (λ i. wordAt lists (entryAt s d i)) (λ j. quadAt lists (placeAt s d j))
               (λ a. getD (sets pages (page * pageSize s + offset) key) a 0) (λ i. wordAt lists′ (entryAt s d i)) (λ j. quadAt lists′ (placeAt s d j)) es n key place
               (D .past n (omega arith))
               nl
-              (subst (λ (x : ℕ). Addresses s (λ a. getD (sets pages (page * pageSize s + offset) key) a 0) x key) (sym (S .entry)) new-stands)
+              (subst (λ (x : ℕ). Addresses s (λ a. getD (sets pages (page * pageSize s + offset) key) a 0) x key) (sym (S .entry)) new-addresses)
               (S .named)
               (λ i x u. word-same d es n t dl D own i (below d es n t dl D i x u))
               (λ j l q. S .places d j dl l (λ e. q))
               (bytes-same d es n t dl D)
               M
-              (D .held);
+              (D .holds);
           counted = S .counted;
           most = omega arith;
           in-use = each (λ i. (x : Bytes) × (upd es n (some key) i ≡ some x))

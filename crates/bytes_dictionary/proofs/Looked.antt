@@ -12,7 +12,7 @@ use Rattle.layout.specs.Fields.{countAt, entryAt}
 use Rattle.bytes_index.specs.declared.Span.the-variants as Span
 use Rattle.bytes_index.specs.Entries.{Addresses}
 use Rattle.bytes_index.specs.Field.{SpanOf}
-use Rattle.bytes_index.proofs.Stored.{field-in, field-at, stands-part}
+use Rattle.bytes_index.proofs.Stored.{field-in, field-at, addresses-part}
 use Rattle.bytes_dictionary.specs.declared.Lookup.the-variants.{At, Nothing, Bad}
 use Rattle.bytes_dictionary.specs.Store.{Store, StoreAt}
 use Rattle.bytes_dictionary.specs.Reading.{countIn, Gives, Looked}
@@ -39,13 +39,13 @@ module _ (s : Sizes) (d i : ℕ) (lists : Bytes) (dl : d < dictionaries) where
     pub record Kept (pages : Bytes) (st : Store) : Type 0 where
       pub key : Bytes
       pub in-use : st .entries d i ≡ some key
-      pub stands : Addresses s (λ a. getD pages a 0) (wordAt lists (entryAt s d i)) key
+      pub addressed : Addresses s (λ a. getD pages a 0) (wordAt lists (entryAt s d i)) key
 
     kept : (pages : Bytes) (st : Store) → StoreAt s st pages lists → Kept pages st
     kept pages st S =
         let D = S .dict d dl in
         let u = D .in-use i (omega (arith, D .counted)) in
-        record { key = u .0; in-use = u .1; stands = D .held .entry i (u .0) (u .1) .1 }
+        record { key = u .0; in-use = u .1; addressed = D .holds .entry i (u .0) (u .1) .1 }
 
     pub looked-at : (at len : ℕ) → SpanOf s (wordAt lists (entryAt s d i)) (Span.At at len) → Looked s d i lists (At at len)
     looked-at at len L =
@@ -56,7 +56,7 @@ module _ (s : Sizes) (d i : ℕ) (lists : Bytes) (dl : d < dictionaries) where
               let F = field-at s (wordAt lists (entryAt s d i)) at len (sym (L .field)) in
               subst (λ (o : Option Bytes). Gives pages o (At at len)) (sym (K .in-use))
               (rw (F .starts, F .sized)
-              (stands-part s pages (wordAt lists (entryAt s d i)) (K .key) (rw (← F .starts, ← F .sized) (omega (arith, L .inside))) (K .stands)));
+              (addresses-part s pages (wordAt lists (entryAt s d i)) (K .key) (rw (← F .starts, ← F .sized) (omega (arith, L .inside))) (K .addressed)));
         }
 
     pub looked-foreign : SpanOf s (wordAt lists (entryAt s d i)) Span.Bad → Looked s d i lists Bad
@@ -65,7 +65,7 @@ module _ (s : Sizes) (d i : ℕ) (lists : Bytes) (dl : d < dictionaries) where
           inside = tt;
           right = λ pages st f S.
               let K = kept pages st S in
-              let e : Span.Bad ≡ Span.At _ _ = L .field ∙ field-in s (wordAt lists (entryAt s d i)) (K .stands .paged) (K .stands .inside) in
+              let e : Span.Bad ≡ Span.At _ _ = L .field ∙ field-in s (wordAt lists (entryAt s d i)) (K .addressed .paged) (K .addressed .inside) in
               let z : _≡_ {A = ℕ} 0 1 = cc in
               absurd (omega arith);
         }

@@ -16,7 +16,7 @@ use Rattle.bytes_index.proofs.Place.{place-lt}
 use Rattle.bytes_index.proofs.Filled.{filled-put}
 use Rattle.bytes_buffer.specs.Pages.{upd}
 use Rattle.bytes_dictionary.proofs.Updates.{upd-same, upd-other, more-cases, more-old}
-use Rattle.bytes_dictionary.proofs.Frame.{SameBytes, stands-agree}
+use Rattle.bytes_dictionary.proofs.Frame.{SameBytes, addresses-agree}
 
 module _ (s : Sizes) (B W Q B′ W′ Q′ : ℕ → ℕ) (es : Entries) (n : ℕ) (key : Bytes) (j : ℕ) where
   pub holds-more : es n ≡ none → n < s .e
@@ -31,7 +31,7 @@ module _ (s : Sizes) (B W Q B′ W′ Q′ : ℕ → ℕ) (es : Entries) (n : �
       record {
         entry = λ i k u.
             ⊎-elim (λ h. subst (λ (x : ℕ). (x < s .e) × Addresses s B′ (W′ x) k) (sym (h .0)) (room, subst (Addresses s B′ (W′ n)) (h .1) new))
-            (λ h. let o = H .entry i k (h .1) in (o .0, stands-agree s B B′ (W i) (W′ i) k (we i k (h .1)) (be i k (h .1)) (o .1)))
+            (λ h. let o = H .entry i k (h .1) in (o .0, addresses-agree s B B′ (W i) (W′ i) k (we i k (h .1)) (be i k (h .1)) (o .1)))
             (more-cases es n key i k u);
         names = λ k l. named k l (ℕ-discrete k j);
         met = λ i k u.

@@ -10,7 +10,7 @@ use Rattle.words.specs.Words.{wordAt}
 use Rattle.layout.specs.declared.Sizes.{Sizes}
 use Rattle.layout.specs.Sizes.{dictionaries}
 use Rattle.layout.specs.Fields.{entryAt}
-use Rattle.bytes_index.proofs.Index.{stands-once}
+use Rattle.bytes_index.proofs.Index.{addresses-once}
 use Rattle.bytes_buffer.proofs.Tables.{one-space}
 use Rattle.bytes_dictionary.specs.Store.{Store, DictAt, StoreAt}
 
@@ -45,7 +45,7 @@ one-store s st st′ pages lists S S′ d l =
         let u = D .in-use i h in
         let v = D′ .in-use i (omega (arith, counts)) in
         let e : u .0 ≡ v .0 =
-        stands-once s (λ a. getD pages a 0) (wordAt lists (entryAt s d i)) (u .0) (v .0) (D .held .entry i (u .0) (u .1) .1) (D′ .held .entry i (v .0) (v .1) .1) in
+        addresses-once s (λ a. getD pages a 0) (wordAt lists (entryAt s d i)) (u .0) (v .0) (D .holds .entry i (u .0) (u .1) .1) (D′ .holds .entry i (v .0) (v .1) .1) in
         u .1 ∙ ap some e ∙ sym (v .1)
     same i (no h) = D .past i (omega arith) ∙ sym (D′ .past i (omega (arith, counts)))
 

@@ -145,9 +145,9 @@ module _ (s : Sizes) (lists : Bytes) (d n page offset len stamp place h : ℕ) w
             far (inl h) = inr (omega arith)
             far (inr h) = inl (omega arith)
 
-    pub written : entryWord page offset len < 2 ^ 64 → stamp < 2 ^ 64 → placeWord n h < 2 ^ 32 → Step s lists (entryWritten s lists d n page offset len stamp place h) d n page offset len stamp place h
+    pub words-written : entryWord page offset len < 2 ^ 64 → stamp < 2 ^ 64 → placeWord n h < 2 ^ 32 → Step s lists (entryWritten s lists d n page offset len stamp place h) d n page offset len stamp place h
     unfolding entryWritten one two three
-    written we ws wq =
+    words-written we ws wq =
         let b = dict-from s d in
         let e : wordAt two (entryAt s d n) ≡ entryWord page offset len =
         word-set-other one (orderAt s d n) (entryAt s d n) stamp (omega arith) ∙ word-set-same lists (entryAt s d n) (entryWord page offset len) (omega (arith, inside)) we in

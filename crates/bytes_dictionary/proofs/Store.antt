@@ -35,7 +35,7 @@ use Rattle.bytes_dictionary.specs.Written.{entryWritten, pagesAfter, lis
 use Rattle.bytes_dictionary.specs.Store.{Store, inserted, DictAt, StoreAt}
 use Rattle.bytes_dictionary.specs.Ready.{Ready}
 use Rattle.bytes_dictionary.proofs.Updates.{upd-same, upd-other, upd-each, more-old}
-use Rattle.bytes_dictionary.proofs.Steps.{Step, length-written, written, tables-kept}
+use Rattle.bytes_dictionary.proofs.Steps.{Step, length-written, words-written, tables-kept}
 use Rattle.bytes_dictionary.proofs.Rooms.{Placed, placed-current, placed-next, placed-same, beyond-extended, beyond-took, step-beyond}
 use Rattle.bytes_dictionary.proofs.Grow.{dict-other, dict-own}
 use Rattle.bytes_dictionary.proofs.Beside.{words-beside}
@@ -106,7 +106,7 @@ module _ (s : Sizes) (st : Store) (pages lists : Bytes) (d place stamp : ℕ) (k
     step₁ : Step s lists lists₁ d (st .count d) page offset (length key) stamp place (fnvOf key)
     unfolding lists₁
     step₁ =
-        written s lists d (st .count d) page offset (length key) stamp place (fnvOf key) (F .ranged) (F .lists-fit) (F .known) room pl
+        words-written s lists d (st .count d) page offset (length key) stamp place (fnvOf key) (F .ranged) (F .lists-fit) (F .known) room pl
         (omega (arith, page-size s (F .ranged), F .ranged .n)) stamp-fits
         (place-fits (st .count d) key (omega (arith, room, F .ranged .e)))
 
@@ -196,7 +196,7 @@ pub store-insert : (s : Sizes) (st : Store) (pages lists : Bytes) (d place : ℕ
 store-insert s st pages lists d place spot stamp key r f g S R =
     store-more s st pages lists d place stamp key (record { ranged = r; pages-fit = f; lists-fit = g; known = R .known }) S (R .room) (R .short) (R .stamp-fits) (R .later)
     (R .searched .range)
-    (R .searched .right (st .entries d) (S .dict d (R .known) .held))
+    (R .searched .right (st .entries d) (S .dict d (R .known) .holds))
     spot
     (R .planned)
     (R .spotted)

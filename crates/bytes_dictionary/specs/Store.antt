@@ -50,7 +50,7 @@ LiesBefore W w w′ = (positionOf (pageWordOf W w) < positionOf (pageWordOf W w�
 
 -- Dictionary d of a memory has these entries, `count` of them, with these stamps.
 pub record DictAt (s : Sizes) (pages lists : Bytes) (d : ℕ) (es : Entries) (count : ℕ) (stamp : ℕ → ℕ) : Type 0 where
-  pub held : HoldsEntries s d pages lists es
+  pub holds : HoldsEntries s d pages lists es
   pub counted : wordAt lists (countAt d) ≡ count
   pub most : count ≤ s .e
   -- the numbers in use are exactly those below the count

@@ -19,8 +19,8 @@ use Rattle.bytes_index.proofs.Place.{place-lt, place-onto}
 use Rattle.bytes_index.proofs.Filled.{filled-le, filled-all}
 
 -- An entry word stands for one byte string.
-pub stands-once : (s : Sizes) (B : ℕ → ℕ) (w : ℕ) (a b : Bytes) → Addresses s B w a → Addresses s B w b → a ≡ b
-stands-once s B w a b p q =
+pub addresses-once : (s : Sizes) (B : ℕ → ℕ) (w : ℕ) (a b : Bytes) → Addresses s B w a → Addresses s B w b → a ≡ b
+addresses-once s B w a b p q =
     let e : length a ≡ length b = sym (p .sized) ∙ q .sized in
     ext-getD 0 a b e (λ i l. sym (p .bytes i l) ∙ q .bytes i (omega arith))
 
@@ -69,7 +69,7 @@ module _ (s : Sizes) (B W Q : ℕ → ℕ) (es : Entries) (H : Holds s B W Q es)
     pub in-use : es (namedBy (Q j) - 1) ≡ some key
     pub filled : 0 < namedBy (Q j)
     pub below : namedBy (Q j) ≤ s .e
-    pub stands : Addresses s B (W (namedBy (Q j) - 1)) key
+    pub addressed : Addresses s B (W (namedBy (Q j) - 1)) key
 
   pub named : (j : ℕ) → j < 2 * s .e → Q j ≢ 0 → Named j
   named j l z =
@@ -82,7 +82,7 @@ module _ (s : Sizes) (B W Q : ℕ → ℕ) (es : Entries) (H : Holds s B W Q es)
         in-use = subst (λ (x : ℕ). es x ≡ some (k .1)) i (k .2);
         filled = omega (arith, n);
         below = omega (arith, n, e .0);
-        stands = subst (λ (x : ℕ). Addresses s B (W x) (k .1)) i (e .1);
+        addressed = subst (λ (x : ℕ). Addresses s B (W x) (k .1)) i (e .1);
       }
 
   -- The entry that a search meets, if its bytes are the key.
@@ -90,7 +90,7 @@ module _ (s : Sizes) (B W Q : ℕ → ℕ) (es : Entries) (H : Holds s B W Q es)
   hit i key l M t =
       let k = named (placeAfter (2 * s .e) (fnvOf key) (M .step)) (place-lt (2 * s .e) (fnvOf key) (M .step) (omega arith)) (λ z. omega (arith, M .there, z)) in
       let n : namedBy (Q (placeAfter (2 * s .e) (fnvOf key) (M .step))) - 1 ≡ i = omega (arith, ap namedBy (M .there), place-named i (fnvOf key) (omega arith)) in
-      let e : k .key ≡ key = stands-once s B (W i) (k .key) key (subst (λ (x : ℕ). Addresses s B (W x) (k .key)) n (k .stands)) t in
+      let e : k .key ≡ key = addresses-once s B (W i) (k .key) key (subst (λ (x : ℕ). Addresses s B (W x) (k .key)) n (k .addressed)) t in
       sym (ap es n) ∙ k .in-use ∙ ap some e
 
   -- A filled place names an entry, and none past the last.
@@ -103,7 +103,7 @@ module _ (s : Sizes) (B W Q : ℕ → ℕ) (es : Entries) (H : Holds s B W Q es)
   -- An entry that the index names lies in one page.
   pub never-out : (j : ℕ) → j < 2 * s .e → Q j ≢ 0
       → (pageOf (W (namedBy (Q j) - 1)) < s .n) × (offsetOf (W (namedBy (Q j) - 1)) + sizeOf (W (namedBy (Q j) - 1)) ≤ pageSize s)
-  never-out j l z = let k = named j l z in (k .stands .paged, k .stands .inside)
+  never-out j l z = let k = named j l z in (k .addressed .paged, k .addressed .inside)
 
   -- There is always an empty place: twice as many places as entries.
   pub never-full : 1 ≤ s .e → (h : ℕ) → ((k : ℕ) → k < 2 * s .e → Q (placeAfter (2 * s .e) h k) ≢ 0) → ⊥

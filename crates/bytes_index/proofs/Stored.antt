@@ -63,25 +63,25 @@ field-bad s w h = go (split (ltb (pageOf w) (s .n) && leb (offsetOf w + sizeOf w
     go (inr p) = rw p
 
 -- An entry that was read: what its word says, inside the pages.
-pub located : (s : Sizes) (pages : Bytes) (w at len : ℕ) (r : Span) → pageBytes s ≤ length pages → SpanOf s w r → r ≡ At at len
+pub span-found : (s : Sizes) (pages : Bytes) (w at len : ℕ) (r : Span) → pageBytes s ≤ length pages → SpanOf s w r → r ≡ At at len
     → (entryField s w ≡ At at len) × (at + len ≤ length pages)
-located s pages w at len r l L e = (sym (L .field) ∙ e, omega (arith, subst (SpanInside s) e (L .inside)))
+span-found s pages w at len r l L e = (sym (L .field) ∙ e, omega (arith, subst (SpanInside s) e (L .inside)))
 
 -- ---- the part of the pages
 
 -- The bytes that an entry's word stands for are those of the part.
-pub stands-part : (s : Sizes) (pages : Bytes) (w : ℕ) (key : Bytes) → addressOf s w + sizeOf w ≤ length pages → Addresses s (λ a. getD pages a 0) w key
+pub addresses-part : (s : Sizes) (pages : Bytes) (w : ℕ) (key : Bytes) → addressOf s w + sizeOf w ≤ length pages → Addresses s (λ a. getD pages a 0) w key
     → take (sizeOf w) (drop (addressOf s w) pages) ≡ key
-stands-part s pages w key l t =
+addresses-part s pages w key l t =
     let n : ℕ = sizeOf w in
     let a : ℕ = addressOf s w in
     let z : n ≡ length key = t .sized in
     let e : length (take n (drop a pages)) ≡ n = simp (length-take, length-drop) (omega arith) in
     ext-getD 0 (take n (drop a pages)) key (e ∙ z) (λ i h. getD-take n (drop a pages) i 0 (omega arith) ∙ getD-drop a pages i 0 ∙ t .bytes i (omega arith))
 
-pub part-stands : (s : Sizes) (pages : Bytes) (w : ℕ) (key : Bytes) → pageOf w < s .n → offsetOf w + sizeOf w ≤ pageSize s
+pub part-addresses : (s : Sizes) (pages : Bytes) (w : ℕ) (key : Bytes) → pageOf w < s .n → offsetOf w + sizeOf w ≤ pageSize s
     → addressOf s w + sizeOf w ≤ length pages → take (sizeOf w) (drop (addressOf s w) pages) ≡ key → Addresses s (λ a. getD pages a 0) w key
-part-stands s pages w key p q l e =
+part-addresses s pages w key p q l e =
     let n : ℕ = sizeOf w in
     let a : ℕ = addressOf s w in
     let f : length (take n (drop a pages)) ≡ n = simp (length-take, length-drop) (omega arith) in
@@ -156,7 +156,7 @@ module _ (s : Sizes) (pages : Bytes) (w at len : ℕ) (front rest key : Bytes) (
   part-byte i l = getD-take (at + len - at) (drop at pages) i 0 (omega arith) ∙ getD-drop at pages i 0
 
   same-part : Addresses s (λ a. getD pages a 0) w key → part ≡ front ++ rest
-  same-part t = part-is ∙ stands-part s pages w key ended t ∙ sym whole
+  same-part t = part-is ∙ addresses-part s pages w key ended t ∙ sym whole
 
   pub not-front : frontIs (take (at + len - at) (drop at pages)) front (length rest) ≡ false → Addresses s (λ a. getD pages a 0) w key → ⊥
   unfolding part
@@ -190,4 +190,4 @@ module _ (s : Sizes) (pages : Bytes) (w at len : ℕ) (front rest key : Bytes) (
         let r : drop n part ≡ rest = ext-getD 0 (drop n part) rest l (λ i g. getD-drop n part i 0 ∙ b i (omega arith)) in
         let f : front ≡ take n part = front-facts part front (length rest) e .1 in
         let p : part ≡ key = sym (take-append-drop n part) ∙ (λ i. sym f i ++ r i) ∙ whole in
-        part-stands s pages w key (F .paged) (F .inside) ended (sym part-is ∙ p)
+        part-addresses s pages w key (F .paged) (F .inside) ended (sym part-is ∙ p)

@@ -52,7 +52,8 @@ Ranged s (Free j) = j < 2 * s .e
 Ranged s Bad = Unit {0}
 
 -- Where the search went, whatever the memory holds. "The search starts at FNV-1a of the stored bytes ... modulo 2 × E. It goes up one place,
--- wrapping to 0, comparing byte by byte, until an equal entry or an empty place ends it."
+-- wrapping to 0": over filled places, to an entry with the key's bytes, or to the first empty place. That it passed no equal entry is said by
+-- `right`, of memory that holds entries.
 abbrev pub Went : Sizes → ℕ → Bytes → Bytes → Bytes → Probe → Type 0
 Went s d pages lists key (At i) =
     Met (λ j. quadAt lists (placeAt s d j)) (2 * s .e) (fnvOf key) i × Addresses s (λ a. getD pages a 0) (wordAt lists (entryAt s d i)) key

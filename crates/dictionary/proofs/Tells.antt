@@ -36,7 +36,7 @@ read-unopened pages lists number x e =
     }
 
 module _ (pages lists : Bytes) (s : Sizes) (e : headerOf (length pages) lists ≡ H.Opened s) (number : ℕ) (x : Bytes) where
-  -- What is told of each state, from what holds of its name for the number.
+  -- The answer is right for every state that the memory stands for, if it is right for the name that the number has there.
   told : (r : ReadAnswer) (y : Bytes) (P : Option Name → Type 0) → ((o : Option Name) → P o → (r ≡ readBy x o) × (y ≡ bufferBy x o))
       → ((st : State) → Stands s st pages lists → P (nameOf s st number))
       → (t : Sizes) (st : State) → Stands t st pages lists → (r ≡ readBy x (nameOf t st number)) × (y ≡ bufferBy x (nameOf t st number))

@@ -41,7 +41,7 @@ spot-legal (Next page) e = tt
 spot-legal NoPage e = let z : _≡_ {A = ℕ} 0 1 = cc in absurd (omega arith)
 spot-legal Bad e = let z : _≡_ {A = ℕ} 0 1 = cc in absurd (omega arith)
 
--- What was read: the kind's count, which leaves a place, the lowest untaken page, and the entry's spot.
+-- What was read: the kind's count, which is below e, the lowest untaken page, and the entry's spot.
 pub record Read (s : Sizes) (lists : Bytes) (k len n u : ℕ) (spot : Spot) : Type 0 where
   pub counted : countIn s (countWord lists k) ≡ C.Entries n
   pub roomy : n < s .e
@@ -106,11 +106,11 @@ module _ (s : Sizes) (lists : Bytes) (k len : ℕ) (l : k < kinds) where
 
     module _ (spotted : IsSpot spot) where
       -- What the block's search says of a state.
-      reserved-is : (r : Chosen) → Chooses s lists k n r → {pages : Bytes} {st : State} (S : Stands s st pages lists) → r ≡ chosenBy (stampOf (st .blocks)) (pick s (st .blocks) k)
-      reserved-is r H {pages} {st} S = H .right pages st S (next-count S k ∙ sym (number-is S n (F .counted)))
+      chosen-is : (r : Chosen) → Chooses s lists k n r → {pages : Bytes} {st : State} (S : Stands s st pages lists) → r ≡ chosenBy (stampOf (st .blocks)) (pick s (st .blocks) k)
+      chosen-is r H {pages} {st} S = H .right pages st S (next-count S k ∙ sym (number-is S n (F .counted)))
 
       pub plans-blockless : (why : Refusal) → Chooses s lists k n (R.Refused why) → Plans s lists k len (P.Refused why)
-      plans-blockless why H = record { bounded = bound (H .bounded); right = λ pages st S. go S (stampOf (st .blocks)) (pick s (st .blocks) k) refl (reserved-is _ H S) }
+      plans-blockless why H = record { bounded = bound (H .bounded); right = λ pages st S. go S (stampOf (st .blocks)) (pick s (st .blocks) k) refl (chosen-is _ H S) }
         where
           bound : (why ≡ W.Unopened) ⊎ (why ≡ W.NoBlock) → (why ≡ W.Unopened) ⊎ NumberWithin 8 10 why
           bound (inl q) = inl q
@@ -134,7 +134,7 @@ module _ (s : Sizes) (lists : Bytes) (k len : ℕ) (l : k < kinds) where
               stamp = H .bounded .2;
             };
             right = λ pages st S.
-                let r = go (stampOf (st .blocks)) (pick s (st .blocks) k) (reserved-is _ H S) in
+                let r = go (stampOf (st .blocks)) (pick s (st .blocks) k) (chosen-is _ H S) in
                 record { number = number-is S n (F .counted); spot = spot-is S u spot (F .lowest) (F .planned); block = r .0; stamp = r .1 };
           }
         where

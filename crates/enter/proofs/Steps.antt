@@ -108,32 +108,32 @@ stamps-sum s lists t l e =
 -- ---- the block and the stamp
 
 -- No block was answered: the rule picks none, or the memory is no dictionary's.
-pub reserves-none : (s : Sizes) (lists : Bytes) (k n : ℕ) (r : Allocated) → Allocates s lists k n r → (tagOf the-type r ≡ 1) ⊎ (tagOf the-type r ≡ 2)
+pub chooses-none : (s : Sizes) (lists : Bytes) (k n : ℕ) (r : Allocated) → Allocates s lists k n r → (tagOf the-type r ≡ 1) ⊎ (tagOf the-type r ≡ 2)
     → Chooses s lists k n (blockRefused r)
-reserves-none s lists k n (A.Block g) G (inl e) = absurd (omega arith)
-reserves-none s lists k n (A.Block g) G (inr e) = absurd (omega arith)
-reserves-none s lists k n A.NoBlock G e =
+chooses-none s lists k n (A.Block g) G (inl e) = absurd (omega arith)
+chooses-none s lists k n (A.Block g) G (inr e) = absurd (omega arith)
+chooses-none s lists k n A.NoBlock G e =
     record { bounded = inr refl; right = λ pages st S q. go (stampOf (st .blocks)) (pick s (st .blocks) k) (G .right (st .blocks) (S .blocked) q) }
   where
     go : (t : ℕ) (o : Option ℕ) → A.NoBlock ≡ allocated o → R.Refused NoBlock ≡ chosenBy t o
     go t none f = refl
     go t (some g) f = let z : _≡_ {A = ℕ} 0 1 = cc in absurd (omega arith)
-reserves-none s lists k n A.Bad G e =
+chooses-none s lists k n A.Bad G e =
     record { bounded = inl refl; right = λ pages st S q. go (stampOf (st .blocks)) (pick s (st .blocks) k) (G .right (st .blocks) (S .blocked) q) }
   where
     go : (t : ℕ) (o : Option ℕ) → A.Bad ≡ allocated o → R.Refused Unopened ≡ chosenBy t o
     go t none f = let z : _≡_ {A = ℕ} 0 1 = cc in absurd (omega arith)
     go t (some g) f = let z : _≡_ {A = ℕ} 0 1 = cc in absurd (omega arith)
 
-pub reserves-unstamped : (s : Sizes) (lists : Bytes) (k n : ℕ) → Stamps s lists T.Bad → Chooses s lists k n (R.Refused Unopened)
-reserves-unstamped s lists k n G =
+pub chooses-unstamped : (s : Sizes) (lists : Bytes) (k n : ℕ) → Stamps s lists T.Bad → Chooses s lists k n (R.Refused Unopened)
+chooses-unstamped s lists k n G =
     record {
       bounded = inl refl;
       right = λ pages st S q. let f : T.Bad ≡ T.At (stampOf (st .blocks)) = G .right pages st S in let z : _≡_ {A = ℕ} 0 1 = cc in absurd (omega arith);
     }
 
-pub reserves-block : (s : Sizes) (lists : Bytes) (k n g t : ℕ) → Allocates s lists k n (A.Block g) → Stamps s lists (T.At t) → Chooses s lists k n (R.Block g t)
-reserves-block s lists k n g t G H =
+pub chooses-block : (s : Sizes) (lists : Bytes) (k n g t : ℕ) → Allocates s lists k n (A.Block g) → Stamps s lists (T.At t) → Chooses s lists k n (R.Block g t)
+chooses-block s lists k n g t G H =
     record {
       bounded = (G .range .0, G .range .1, H .range);
       right = λ pages st S q. go (stampOf (st .blocks)) (pick s (st .blocks) k) (H .right pages st S) (G .right (st .blocks) (S .blocked) q);

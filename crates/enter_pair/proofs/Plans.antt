@@ -36,7 +36,7 @@ use Rattle.enter.proofs.Steps.{countWord}
 use Rattle.enter_pair.specs.declared.PairPlanned.the-variants as P
 use Rattle.enter_pair.specs.Plans.{headSpot, pairSpot, NoPair, full, pageless, blockless, PlansPair}
 
--- What was read first: the count of the pairs, which leaves a place, as does the number h of the head, and the lowest untaken page.
+-- What was read first: the count of the pairs and the number h of the head, both below e, and the lowest untaken page.
 pub record Counts (s : Sizes) (lists : Bytes) (k h n u : ℕ) : Type 0 where
   pub counted : countIn s (countWord lists k) ≡ C.Entries n
   pub room : n < s .e
@@ -131,13 +131,13 @@ module _ (s : Sizes) (lists : Bytes) (k h size len : ℕ) (l : k < kinds) where
           pair-spotted : {pages : Bytes} {st : State} → Stands s st pages lists → IsSpot (pairSpot s st lists k size len)
           pair-spotted S = subst IsSpot (sym (pair-is S)) spotted
 
-          reserved-is : (r : Chosen) → Chooses s lists k n r → {pages : Bytes} {st : State} (S : Stands s st pages lists)
+          chosen-is : (r : Chosen) → Chooses s lists k n r → {pages : Bytes} {st : State} (S : Stands s st pages lists)
               → r ≡ chosenBy (stampOf (st .blocks)) (pick s (st .blocks) k)
-          reserved-is r H {pages} {st} S = H .right pages st S (next-count S k ∙ sym (number-is S n (F .counted)))
+          chosen-is r H {pages} {st} S = H .right pages st S (next-count S k ∙ sym (number-is S n (F .counted)))
 
           pub plans-blockless : (why : Refusal) → Chooses s lists k n (R.Refused why) → PlansPair s lists k h size len (P.Refused why)
           plans-blockless why H =
-              record { bounded = bound (H .bounded); right = λ pages st S. go S (stampOf (st .blocks)) (pick s (st .blocks) k) refl (reserved-is _ H S) }
+              record { bounded = bound (H .bounded); right = λ pages st S. go S (stampOf (st .blocks)) (pick s (st .blocks) k) refl (chosen-is _ H S) }
             where
               bound : (why ≡ W.Unopened) ⊎ (why ≡ W.NoBlock) → (why ≡ W.Unopened) ⊎ NumberWithin 8 10 why
               bound (inl q) = inl q
@@ -167,7 +167,7 @@ module _ (s : Sizes) (lists : Bytes) (k h size len : ℕ) (l : k < kinds) where
                   stamp = H .bounded .2;
                 };
                 right = λ pages st S.
-                    let r = go (stampOf (st .blocks)) (pick s (st .blocks) k) (reserved-is _ H S) in
+                    let r = go (stampOf (st .blocks)) (pick s (st .blocks) k) (chosen-is _ H S) in
                     record { number = number-is S n (F .counted); head = head-is S; pair = pair-is S; block = r .0; stamp = r .1 };
               }
             where

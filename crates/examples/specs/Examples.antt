@@ -39,17 +39,19 @@ m7Tag = replicate 127 97 ++ 62 ∷ []
 abbrev pub sizes : ℕ → Sizes
 sizes b = record { p = 13; n = 4; e = 100; w = 4; b = b }
 
--- The kinds of n IRIs; then of n strings after 65 IRIs, newest first.
+-- The kinds of n IRIs.
 abbrev pub iris : ℕ → List ℕ
 iris n = replicate n 0
 
+-- The kinds of n strings after 65 IRIs, newest first.
 abbrev pub strings : ℕ → List ℕ
 strings n = replicate n 1 ++ iris 65
 
--- The name of a kind whose first part is the byte n; then the first n of these names, newest first.
+-- The name of a kind whose first part is the byte n.
 abbrev pub named : ℕ → ℕ → Name
 named k n = entered k (n ∷ []) []
 
+-- The first n of these names, newest first.
 abbrev pub names : ℕ → ℕ → List Name
 names k zero = []
 names k (suc n) = named k n ∷ names k n

@@ -25,14 +25,14 @@ set-zero (x ∷ l) zero = refl
 set-zero (x ∷ l) (suc b) = set-zero l b
 
 -- A byte of a run of zeros, also where the run goes past the end.
-cleared : (n : ℕ) (l : Bytes) (b k : ℕ) → k < n → getD (sets l b (replicate n 0)) (b + k) 0 ≡ 0
-cleared zero l b k h = absurd (omega arith)
-cleared (suc n) l b zero h =
+zero-run : (n : ℕ) (l : Bytes) (b k : ℕ) → k < n → getD (sets l b (replicate n 0)) (b + k) 0 ≡ 0
+zero-run zero l b k h = absurd (omega arith)
+zero-run (suc n) l b zero h =
     let e : b + zero ≡ b = omega arith in
     rw e (getD-sets-out (replicate n 0) (set l b 0) (suc b) b (λ d g. omega arith) ∙ set-zero l b)
-cleared (suc n) l b (suc k) h =
+zero-run (suc n) l b (suc k) h =
     let e : b + suc k ≡ suc b + k = omega arith in
-    rw e (cleared n (set l b 0) (suc b) k (omega arith))
+    rw e (zero-run n (set l b 0) (suc b) k (omega arith))
 
 -- ---- words in a row
 
@@ -86,7 +86,7 @@ behind s lists k h = rw put-all (put-byte (header s) (zeroed s lists) 0 k (λ d 
 zero-byte : (s : Sizes) (lists : Bytes) (k : ℕ) → 48 ≤ k → k < listBytes s → getD (openedLists s lists) k 0 ≡ 0
 zero-byte s lists k h l =
     let e : 0 + k ≡ k = omega arith in
-    behind s lists k h ∙ rw e at (cleared (listBytes s) lists 0 k l)
+    behind s lists k h ∙ rw e at (zero-run (listBytes s) lists 0 k l)
 
 pub opened-beyond : (s : Sizes) (lists : Bytes) (k : ℕ) → listBytes s ≤ k → getD (openedLists s lists) k 0 ≡ getD lists k 0
 opened-beyond s lists k h =

@@ -41,7 +41,7 @@ pub record HeaderOf (s : Sizes) (pages : ℕ) (lists : Bytes) : Type 0 where
   pub pages-fit : pageBytes s ≤ pages
   pub lists-fit : listBytes s ≤ length lists
 
--- Slices long enough for the sizes, and a number i below `most`. A kind is below `kinds`, a dictionary below `dictionaries`.
+-- Sizes in their ranges, slices long enough for them, and a number i below `most`. A kind is below `kinds`, a dictionary below `dictionaries`.
 pub record Lent (s : Sizes) (pages lists : Bytes) (most i : ℕ) : Type 0 where
   pub ranged : InRange s
   pub pages-fit : pageBytes s ≤ length pages

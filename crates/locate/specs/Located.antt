@@ -67,7 +67,7 @@ pub record LocatesEntry (s : Sizes) (pages lists : Bytes) (k at len : ℕ) (r : 
       → take len (drop at pages) ≡ keyOf (st .part k .heads) a
       → Tells pages (some a) r
 
--- The same for an entry that is read without another one: it holds for all sizes and all lists.
+-- The same for an entry that is read without another one: for all lists, and for all sizes whose pages are lent and hold the entry.
 abbrev pub LocatesAlone : Bytes → ℕ → ℕ → ℕ → Located → Type 0
 LocatesAlone pages k at len r = (s : Sizes) (lists : Bytes) → pageBytes s ≤ length pages → at + len ≤ pageBytes s → LocatesEntry s pages lists k at len r
 

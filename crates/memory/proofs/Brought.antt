@@ -19,16 +19,16 @@ use Rattle.memory.proofs.Same.{stands-same}
 
 -- ---- the promises are all that the theorem needs of a call
 
-abbrev Holds : Sizes → State → Memory → Type 0
-Holds s st m = Stands s st (m .pages) (m .lists)
+abbrev StandsIn : Sizes → State → Memory → Type 0
+StandsIn s st m = Stands s st (m .pages) (m .lists)
 
-step : (s : Sizes) (m z : Memory) (e : Event) → Called m e z → Step Memory s (Holds s) m e z
+step : (s : Sizes) (m z : Memory) (e : Event) → Called m e z → Step Memory s (StandsIn s) m e z
 step s m z (add a r) c = c .whole s
 step s m z (find a r) c = λ st S. (c .whole s st S, rw (c .kept .0, c .kept .1) S)
 step s m z (read n x r y) c = λ st S. (c .whole s st S, rw (c .kept .0, c .kept .1) S)
 step s m z (count k r) c = λ st S. (c .whole s st S, rw (c .kept .0, c .kept .1) S)
 
-runs : (s : Sizes) (m z : Memory) (es : List Event) → Brought s m es z → Runs Memory s (Holds s) m es z
+runs : (s : Sizes) (m z : Memory) (es : List Event) → Brought s m es z → Runs Memory s (StandsIn s) m es z
 runs s m z [] b = b
 runs s m z (e ∷ es) b =
     let y : Memory = b .0 in
@@ -54,7 +54,7 @@ never-3 s st m z e S b = never-unopened s st e (step s (b .0) z e (b .2) st (sta
 
 -- The state's names count as given before the list.
 pub brought-any : (s : Sizes) (st : State) (m z : Memory) (es : List Event) → Stands s st (m .pages) (m .lists) → Brought s m es z → Demand3 (beforeOf s st) es
-brought-any s st m z es S b = lists-from Memory s (Holds s) m z es (runs s m z es b) st (S .good) S
+brought-any s st m z es S b = lists-from Memory s (StandsIn s) m z es (runs s m z es b) st (S .good) S
 
 pub brought-any-after : (s : Sizes) (st : State) (m z : Memory) (es : List Event) → Stands s st (m .pages) (m .lists) → Brought s m es z
     → Demand3After s (beforeOf s st) es z
@@ -63,7 +63,7 @@ brought-any-after s st m z es S b = after-list s (beforeOf s st) es z (λ e z′
 -- ---- from open
 
 brought-opened : (s : Sizes) (m z : Memory) (es : List Event) → Stands s opened (m .pages) (m .lists) → Brought s m es z → Demand3 (nothing s) es
-brought-opened s m z es S b = opened-demand Memory s (Holds s) m z es (runs s m z es b) (S .good .sizes) S
+brought-opened s m z es S b = opened-demand Memory s (StandsIn s) m z es (runs s m z es b) (S .good .sizes) S
 
 module _ (s : Sizes) (pages lists pages₁ lists₁ : Bytes) (O : OpenPost s pages lists OpenAnswer.done pages₁ lists₁)
     (es : List Event) (z : Memory) (b : Brought s (record { pages = pages₁; lists = lists₁ }) es z) where
@@ -83,7 +83,7 @@ module _ (s : Sizes) (pages lists pages₁ lists₁ : Bytes) (O : OpenPost s pag
   -- The memory after the list stands for all fresh names in the order of their adds, across the kinds.
   pub brought-stands-for : (st : State) × Stands s st (z .pages) (z .lists) × (ordered st ≡ freshNames [] es)
   brought-stands-for =
-      let k = opened-stands-for Memory s (Holds s) begin z es (runs s begin z es b) (fresh .good .sizes) fresh in
+      let k = opened-stands-for Memory s (StandsIn s) begin z es (runs s begin z es b) (fresh .good .sizes) fresh in
       (k .0, k .1, k .3)
 
 -- Document 01: refusal 3 is never given "on a whole book as these calls left it", in such a list or after it.

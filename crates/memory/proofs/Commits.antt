@@ -129,7 +129,7 @@ module _ (s : Sizes) (store : Store) (b : Blocks) (pages lists : Bytes) (S : Sto
       StoreAt s (inserted s store d key t) (pagesAfter s pages spot key) lists₁ × BlocksAt s b lists₁
   insert-commit d place spot t key R =
       commit-entry s store pages lists d place spot t key S (R .known) (R .room) (R .short) (R .stamp-fits) (R .later) (R .searched .range)
-      (R .searched .right (store .entries d) (S .dict d (R .known) .held))
+      (R .searched .right (store .entries d) (S .dict d (R .known) .holds))
       (R .planned)
       (R .spotted)
       b
@@ -194,7 +194,7 @@ module _ (s : Sizes) (store : Store) (b : Blocks) (pages lists : Bytes) (S : Sto
           j
           other
           l)
-          (F .right (store .entries d) (S .dict d dl .held)))
+          (F .right (store .entries d) (S .dict d dl .holds)))
 
   pub commit-both : (dh hplace : ℕ) (hspot : Spot) (head : Bytes) (d place : ℕ) (spot : Spot) (key : Bytes) (t k g : ℕ) → dh ≢ d
       → Ready s store pages lists dh hplace hspot t head

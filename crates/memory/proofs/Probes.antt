@@ -92,7 +92,7 @@ head-apart (suc (suc (suc (suc k)))) p e = let z : _≡_ {A = ℕ} 0 1 = cc in o
 
 module _ (s : Sizes) (st : State) (pages lists : Bytes) (S : Stands s st pages lists) (k : ℕ) (known : k < kinds) (key : Bytes) where
   main-held : HoldsEntries s (row k .mainAt) pages lists (S .store .entries (row k .mainAt))
-  main-held = S .stored .dict (row k .mainAt) (main-below k) .held
+  main-held = S .stored .dict (row k .mainAt) (main-below k) .holds
 
   pub main-at : (i : ℕ) → Searched s (row k .mainAt) pages lists key (At i) → entryNumber key (keysOf (st .part k .heads) (st .part k .names)) ≡ some i
   main-at i r =
@@ -110,7 +110,7 @@ module _ (s : Sizes) (st : State) (pages lists : Bytes) (S : Stands s st pages l
 
   module _ (pair : row k .paired ≡ true) where
     head-held : HoldsEntries s (row k .headsAt) pages lists (S .store .entries (row k .headsAt))
-    head-held = S .stored .dict (row k .headsAt) (head-below k) .held
+    head-held = S .stored .dict (row k .headsAt) (head-below k) .holds
 
     pub head-at : (i : ℕ) → Searched s (row k .headsAt) pages lists key (At i) → entryNumber key (st .part k .heads) ≡ some i
     head-at i r =

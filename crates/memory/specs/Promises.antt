@@ -1,5 +1,6 @@
--- What each entry promises of its answer and of all lent bytes afterwards, whatever memory is lent. A promise takes the bytes of pages and lists before the
--- call and after it, also where the entry borrows them for reading only. Assumes nothing.
+-- What each entry promises of its answer and of the bytes of pages, lists and output buffer afterwards, whatever memory is lent. A promise takes the bytes of
+-- pages and lists before the call and after it, also where the entry borrows them for reading only. That a name's parts stay is said by the exported contracts.
+-- Assumes nothing.
 use Prim.Native.Nat.{ℕ, _+_, _/_, _^_, _<_, _≤_}
 use mathlib.Core.Path.{_≡_}
 use mathlib.Core.Bool.{true}

@@ -39,9 +39,9 @@ module _ (s : Sizes) (lists : Bytes) (x y : Blocks) (T : BlocksAt s x lists) (U 
       go (inl p) = sym (owner-in s x lists T g (ltb-true g (s .b) p)) ∙ owner-in s y lists U g (ltb-true g (s .b) p)
       go (inr p) = owner-past s x lists T g (ltb-false g (s .b) p) ∙ sym (owner-past s y lists U g (ltb-false g (s .b) p))
 
-  -- A place follows from the owners.
-  places : (k l : ℕ) → x .blockOf k l ≡ y .blockOf k l
-  places k l = go (split (ltb (l * 2 ^ s .w) (x .next k)))
+  -- The global block of a local block follows from the owners.
+  blocks-of : (k l : ℕ) → x .blockOf k l ≡ y .blockOf k l
+  blocks-of k l = go (split (ltb (l * 2 ^ s .w) (x .next k)))
     where
       go : Split (ltb (l * 2 ^ s .w) (x .next k)) → x .blockOf k l ≡ y .blockOf k l
       go (inl p) =
@@ -52,4 +52,4 @@ module _ (s : Sizes) (lists : Bytes) (x y : Blocks) (T : BlocksAt s x lists) (U 
           T .unused k l h ∙ sym (U .unused k l (rw (nexts k) at h))
 
   pub blocks-unique : x ≡ y
-  blocks-unique = λ i. record { owner = λ g. owners g i; blockOf = λ k l. places k l i; next = λ k. nexts k i }
+  blocks-unique = λ i. record { owner = λ g. owners g i; blockOf = λ k l. blocks-of k l i; next = λ k. nexts k i }

@@ -30,7 +30,7 @@ abbrev pub search : (ℕ → Block) → ℕ → ℕ → Option ℕ
 search t g zero = none
 search t g (suc n) = ifFree (t g) g (search t (suc g) n)
 
--- Where the search for the kind k's local block l starts: block 0 for the first; g + l for the next after local block l, held in g.
+-- Where the search for a local block of the kind k starts. Local block 0: from block 0. Local block l + 1: from g + l, where g holds local block l.
 abbrev pub start : Blocks → ℕ → ℕ → ℕ
 start b k zero = zero
 start b k (suc l) = b .blockOf k l + l

@@ -79,9 +79,9 @@ module _ (s : Sizes) where
     nexts : (k : ℕ) → x .blocks .next k ≡ y .blocks .next k
     nexts k = F .part k .numbered ∙ ap (λ (p : Part). length (p .names)) (parts k) ∙ sym (G .part k .numbered)
 
-    -- A place follows from the owners.
-    places : (k l : ℕ) → x .blocks .blockOf k l ≡ y .blocks .blockOf k l
-    places k l = go (split (ltb (l * 2 ^ s .w) (x .blocks .next k)))
+    -- The global block of a local block follows from the owners.
+    blocks-of : (k l : ℕ) → x .blocks .blockOf k l ≡ y .blocks .blockOf k l
+    blocks-of k l = go (split (ltb (l * 2 ^ s .w) (x .blocks .next k)))
       where
         go : Split (ltb (l * 2 ^ s .w) (x .blocks .next k)) → x .blocks .blockOf k l ≡ y .blocks .blockOf k l
         go (inl p) =
@@ -94,6 +94,6 @@ module _ (s : Sizes) where
     pub unique : x ≡ y
     unique = λ i. record {
       part = λ k. parts k i;
-      blocks = record { owner = λ g. owners g i; blockOf = λ k l. places k l i; next = λ k. nexts k i };
+      blocks = record { owner = λ g. owners g i; blockOf = λ k l. blocks-of k l i; next = λ k. nexts k i };
       space = λ d. spaces d i;
     }

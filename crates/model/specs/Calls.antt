@@ -32,10 +32,11 @@ abbrev pub At : {E : Type 0} → E → List E → List E → Type 0
 At e xs [] = ⊥
 At e xs (x ∷ es) = ((e ≡ x) × (xs ≡ es)) ⊎ At e xs es
 
--- The answer is fresh with the number n; then: it is fresh or known with the number n.
+-- The answer is fresh with the number n.
 abbrev pub SaidFresh : AddAnswer → ℕ → Type 0
 SaidFresh r n = r ≡ AddAnswer.fresh n
 
+-- It is fresh or known with the number n.
 abbrev pub Gave : AddAnswer → ℕ → Type 0
 Gave r n = SaidFresh r n ⊎ (r ≡ AddAnswer.known n)
 

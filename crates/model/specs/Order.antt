@@ -9,11 +9,12 @@ use Rattle.model.specs.Answers.{AddAnswer}
 use Rattle.model.specs.State.{Stamped, Part, State, stampOf}
 use Rattle.model.specs.Calls.{Event, add, find, read, count}
 
--- The names with the stamp t: of one kind; then of all kinds below n.
+-- The names of one kind with the stamp t.
 abbrev pub withStamp : ℕ → List Stamped → List Name
 withStamp t [] = []
 withStamp t (x ∷ xs) = cond (eqb t (x .stamp)) (x .name ∷ withStamp t xs) (withStamp t xs)
 
+-- The names of all kinds below n with the stamp t.
 abbrev pub allWith : (ℕ → Part) → ℕ → ℕ → List Name
 allWith f t zero = []
 allWith f t (suc n) = withStamp t (f n .names) ++ allWith f t n

@@ -39,7 +39,7 @@ call-tells m m′ (find a r) c = promised findNumbers findOf find-back (λ x. Fi
 call-tells m m′ (read n x r y) c = promised nameNumbers readOf read-back (λ z. ReadPost (m .pages) (m .lists) n x z y (m′ .pages) (m′ .lists)) r c
 call-tells m m′ (count k r) c = promised countNumbers countOf count-back (λ x. CountPost (m .pages) (m .lists) k x (m′ .pages) (m′ .lists)) r c
 
--- What a call returned is what its answer's numbers are.
+-- The numbers returned are the numbers of the answer that they tell.
 abbrev pub Exact : Returned → Type 0
 Exact (add a r) = r ≡ addNumbers (addOf r)
 Exact (find a r) = r ≡ findNumbers (findOf r)

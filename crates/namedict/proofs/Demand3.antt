@@ -1,28 +1,30 @@
 -- Demand 3 in the numbers that exported calls returned, from demand 3 of their answers. Assumes nothing.
 use Prim.Native.Nat.{ℕ}
 use mathlib.Core.Path.{_≡_, refl, ap, subst, _∙_}
-use mathlib.Core.Logic.{_↔_, inl, inr, ⊎-map}
+use mathlib.Core.Logic.{_↔_, _≢_, inl, inr, ⊎-map}
 use mathlib.Core.List.{List, [], _∷_, map}
 use native.Mathlib.Omega.{arith}
 use borrow.Author.Tests.{eqb-true, eq-eqb}
 use lib.Dec.{eqb}
 use Rattle.slices.specs.Bytes.{Bytes}
 use Rattle.slices.proofs.Tests.{Split, split}
+use Rattle.refusals.specs.declared.Refusal.the-variants.{Unopened}
 use Rattle.layout.specs.declared.Sizes.{Sizes}
 use Rattle.model.specs.Names.{Name}
 use Rattle.model.specs.Answers.{AddAnswer, FindAnswer, CountAnswer}
 use Rattle.model.specs.Calls.{Event, At, SaidFresh, Gave, Accepted, Added, nothing, Given, Issued, ifFresh, freshKinds, howMany, Demand3}
+use Rattle.model.specs.Runs.{RefusedFor}
 use Rattle.memory.specs.Lists.{Memory}
-use Rattle.memory.proofs.Brought.{brought-demand-3}
+use Rattle.memory.proofs.Brought.{brought-demand-3, brought-never-3}
 use Rattle.memory.proofs.Demand3.{all-as-left}
 use Rattle.namedict.specs.declared.NamedictNumbered.{NamedictNumbered}
 use Rattle.namedict.specs.declared.NamedictName.{NamedictName}
 use Rattle.namedict.specs.declared.NamedictCounted.{NamedictCounted}
 use Rattle.namedict.specs.Numbers.{addNumbers, findNumbers, nameNumbers, countNumbers}
 use Rattle.namedict.specs.Answers.{refusalOf, addOf, findOf, readOf, countOf}
-use Rattle.namedict.specs.Returned.{OpenReturned, Returned, add, find, read, count, Exported, ExportedCalls, ExportedBrings, ExportedBrought, eventOf}
+use Rattle.namedict.specs.Returned.{OpenReturned, Returned, add, find, read, count, Exported, ExportedCalls, ExportedBrings, ExportedBrought, refusalIn, eventOf}
 use Rattle.namedict.specs.Demand3.{GaveNumber, GaveFresh, ReturnedTo, GivenNumber, IssuedNumber, kindsOfFresh, CountAfter, NameAfter, NoneAfter, Demand3InNumbers}
-use Rattle.namedict.proofs.Calls.{open-tells, calls-tell, exact-at}
+use Rattle.namedict.proofs.Calls.{open-tells, call-tells, calls-tell, exact-at}
 
 -- ---- what is read off the calls, and off their answers
 
@@ -88,6 +90,13 @@ accepted-in r q why e = go (split (eqb (r .word) 2))
     go (inl w) = let f : FindAnswer.known (r .number) ≡ FindAnswer.refused why = rw (eq-eqb (r .refusal) 0 q, w) at e in let z : _≡_ {A = ℕ} 0 1 = cc in absurd (omega arith)
     go (inr w) = let f : FindAnswer.absent ≡ FindAnswer.refused why = rw (eq-eqb (r .refusal) 0 q, w) at e in let z : _≡_ {A = ℕ} 0 1 = cc in absurd (omega arith)
 
+-- A call that returned 3 was refused as unopened.
+unopened-in : (e : Returned) → refusalIn e ≡ 3 → RefusedFor Unopened (eventOf e)
+unopened-in (add a r) q = rw q
+unopened-in (find a r) q = rw q
+unopened-in (read n b r c) q = rw q
+unopened-in (count k r) q = rw q
+
 -- ---- from an exported open that returned 0
 
 module _ (s : Sizes) (pages lists : Bytes) (m : Memory) (O : OpenReturned s pages lists 0 (m .pages) (m .lists)) where
@@ -131,3 +140,11 @@ module _ (s : Sizes) (pages lists : Bytes) (m : Memory) (O : OpenReturned s page
     read-after n b r b′ d =
         let D = brought-demand-3-in-numbers (read n b r b′ ∷ es) z (y, c, d) in
         (D .read-name es n b b′ r (inl (refl, refl)), D .read-none es n b b′ r (inl (refl, refl)))
+
+    -- No call in such a list or after it returns 3.
+    pub never-3-in-numbers : (e : Returned) → ExportedBrings s y e z → refusalIn e ≢ 3
+    never-3-in-numbers e d q =
+        brought-never-3 s pages lists (m .pages) (m .lists) (open-tells s pages lists 0 (m .pages) (m .lists) O) (map eventOf es) y z (eventOf e)
+        (calls-tell s m y es c)
+        (d .0, d .1, call-tells (d .0) z e (d .2))
+        (unopened-in e q)

@@ -20,10 +20,11 @@ use Rattle.namedict.specs.Returned.{Returned, add, find, read, count}
 
 -- ---- what is read off a list of calls
 
--- An add was not refused and was given the number n; then: it also said fresh, which is the word 1.
+-- An add was given the number n. With refusal 0 its word is 1 or 2 (`exact-at` of proofs/Calls.antt).
 abbrev pub GaveNumber : NamedictNumbered → ℕ → Type 0
 GaveNumber r n = (r .refusal ≡ 0) × (r .number ≡ n)
 
+-- It said fresh, which is the word 1, with the number n.
 abbrev pub GaveFresh : NamedictNumbered → ℕ → Type 0
 GaveFresh r n = (r .refusal ≡ 0) × (r .word ≡ 1) × (r .number ≡ n)
 

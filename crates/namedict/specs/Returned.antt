@@ -60,6 +60,13 @@ ExportedBrings s m e z = Bringing Exported s m e z
 abbrev pub ExportedBrought : Sizes → Memory → List Returned → Memory → Type 0
 ExportedBrought s m es z = InTurn (ExportedBrings s) m es z
 
+-- The refusal that a call returned, 0 if it was accepted.
+abbrev pub refusalIn : Returned → ℕ
+refusalIn (add a r) = r .refusal
+refusalIn (find a r) = r .refusal
+refusalIn (read n b r c) = r .refusal
+refusalIn (count k r) = r .refusal
+
 -- The call with the answer that its numbers tell.
 abbrev pub eventOf : Returned → Event
 eventOf (add a r) = Event.add a (addOf r)

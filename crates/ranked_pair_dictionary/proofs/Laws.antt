@@ -100,7 +100,7 @@ pub fid-read : (f : ℕ) (rest : Bytes) → f < 2 ^ 30 → readFidAnswer (fid f 
 unfolding fid
 fid-read f rest h = read-written (furtherBytes f) f rest (fid-holds f h) ∙ ap (λ (n : ℕ). Value f n) (sym (length-fid f))
 
--- Two that begin alike are one, and what follows them too.
+-- If two frequent ids with their rests are equal bytes, the numbers are equal, and so are the rests.
 pub fid-same : (f g : ℕ) (r s : Bytes) → f < 2 ^ 30 → g < 2 ^ 30 → fid f ++ r ≡ fid g ++ s → (f ≡ g) × (r ≡ s)
 fid-same f g r s hf hg e =
     let v : Value f (length (fid f)) ≡ Value g (length (fid g)) = sym (fid-read f r hf) ∙ ap readFidAnswer e ∙ fid-read g s hg in

@@ -88,7 +88,7 @@ module _ (s : Sizes) (pages lists : Bytes) (k d : ℕ) (key : Bytes) (known : k 
 -- ---- the search for a name
 
 module _ (s : Sizes) (pages lists : Bytes) where
-  -- By other arguments that stand for the same legal names.
+  -- The search may be said of other arguments that mean the same legal names.
   pub same-names : (M N : Name → Type 0) (r : Search) → ((a : Name) → checks s a ≡ none → M a → N a) → FindsName s N pages lists r → FindsName s M pages lists r
   same-names M N r f h = record { range = h .range; right = λ st a S legal m. h .right st a S legal (f a legal m) }
 

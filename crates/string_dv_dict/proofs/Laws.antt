@@ -226,9 +226,9 @@ unpacked-packs form room m n e = let p = unpack-pack form (unpacks form room m n
 
 -- ---- the same, said of the buffers alone
 
-written : (form : Bytes) (o : Option Refusal) (k : ℕ) → writtenBy form o ≡ W.Length k → (o ≡ none) × (length form ≡ k)
-written form none k e = (refl, cc)
-written form (some why) k e = let z : _≡_ {A = ℕ} 0 1 = cc in absurd (omega arith)
+length-told : (form : Bytes) (o : Option Refusal) (k : ℕ) → writtenBy form o ≡ W.Length k → (o ≡ none) × (length form ≡ k)
+length-told form none k e = (refl, cc)
+length-told form (some why) k e = let z : _≡_ {A = ℕ} 0 1 = cc in absurd (omega arith)
 
 with-room : (form : Bytes) (room : ℕ) (o : Option Refusal) → withRoom form room o ≡ none → (o ≡ none) × (length form ≤ room)
 with-room form room none e = (refl, ltb-false _ _ (passed (ltb room (length form)) ShortBuffer none e .0))
@@ -238,7 +238,7 @@ wrote : (text tag : Bytes) (room k : ℕ) → packAnswer text tag room ≡ W.Len
     → (pairRefusal text tag ≡ none) × (length (packed text tag) ≤ room) × (length (packed text tag) ≡ k)
 unfolding packAnswer
 wrote text tag room k e =
-    let p = written (packed text tag) _ k e in
+    let p = length-told (packed text tag) _ k e in
     let q = with-room (packed text tag) room _ (p .0) in
     (q .0, q .1, p .1)
 

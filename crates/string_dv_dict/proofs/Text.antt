@@ -17,9 +17,9 @@ unfolding escaped
 escaped-each [] = refl
 escaped-each (b ∷ t) = ap (λ (s : Bytes). escape b ++ s) (escaped-each t)
 
-written : (b : ℕ) → WrittenAs escape b
+escape-written : (b : ℕ) → WrittenAs escape b
 unfolding escape
-written b = go (split (eqb b 92)) (split (eqb b 62))
+escape-written b = go (split (eqb b 92)) (split (eqb b 62))
   where
     go : Split (eqb b 92) → Split (eqb b 62) → WrittenAs escape b
     go (inl p) q = let e : b ≡ 92 = eqb-true b 92 p in as-two 92 92 (omega arith) (omega arith) (omega arith) (rw p)
@@ -27,4 +27,4 @@ written b = go (split (eqb b 92)) (split (eqb b 62))
     go (inr p) (inr q) = as-itself (rw (p, q))
 
 pub text-escaped : (t : Bytes) → isText (escaped t) ≡ isText t
-text-escaped t = ap isText (escaped-each t) ∙ text-written escape written t
+text-escaped t = ap isText (escaped-each t) ∙ text-written escape escape-written t

@@ -45,7 +45,7 @@ high-after : (x : Step) (b : ℕ) → High (after x b)
 high-after Bad b = tt
 high-after (Due n lo hi) b = choose High (eqb n 0) (λ _. high-first b) (choose High (within lo hi b) (λ _. omega arith) tt)
 
--- Two bytes that are characters of their own come to the same as one: they are refused where a tail byte is due, and taken where none is.
+-- Two bytes that are each a character have the effect of one: both are refused where a tail byte is due, and taken elsewhere.
 single : (x : Step) → High x → (b y z : ℕ) → b ≤ 0x7F → y ≤ 0x7F → z ≤ 0x7F → after (after x y) z ≡ after x b
 single Bad h b y z p q r = refl
 single (Due n lo hi) h b y z p q r = go (split (eqb n 0))

@@ -27,7 +27,7 @@ fn read(bytes: &[u8]) {
     show::end();
 }
 
-fn written() {
+fn each_written() {
     write(0);
     write(63);
     write(64);
@@ -73,7 +73,7 @@ fn cut() {
 }
 
 pub fn run() {
-    written();
+    each_written();
     short();
     read_back();
     longer();

@@ -1,4 +1,4 @@
--- Reading after writing, at the same place and at another: shown once over the width n, then for words and quads. Assumes nothing.
+-- Reading after writing, at the same index and at another: shown once over the width n, then for words and quads. Assumes nothing.
 use mathlib.Core.Path.{_≡_, refl, _∙_, ap}
 use mathlib.Core.Logic.{_≢_}
 use Prim.Native.Nat.{ℕ, zero, suc, _+_, _*_, _/_, _%_, _^_, _≤_, _<_}

@@ -27,7 +27,7 @@ use Rattle.bytes_index.specs.Search.{keyBytes, Agree}
 use Rattle.bytes_index.proofs.Span.{the-type}
 use Rattle.bytes_index.proofs.Place.{place-zero, place-next}
 use Rattle.bytes_index.proofs.Index.{PlacePassed, place-passed, meets, hit, never-nothing, never-past, never-out, never-full, missed}
-use Rattle.bytes_index.proofs.Stored.{field-in, located, front-sized, not-front, not-all, all-bytes}
+use Rattle.bytes_index.proofs.Stored.{field-in, span-found, front-sized, not-front, not-all, all-bytes}
 use Rattle.bytes_index.proofs.probe_index.Statement.{statement}
 use Rattle.bytes_index.proofs.probe_index.Tie as tie
 
@@ -296,11 +296,11 @@ probe-again c =
     let n : topOf (q .quad-at .result) ≡ topOf (fnvOf key) → Addresses (a .s) (B (a .pages .now)) (w (namedBy (q .quad-at .result) - 1)) key → ⊥ =
     ⊎-elim
     (λ x e.
-    let l = located _ (a .pages .now) _ _ _ _ (z .pre .0 .pages-fit) (x .3 .ensures) (x .5 .given .1) in
+    let l = span-found _ (a .pages .now) _ _ _ _ (z .pre .0 .pages-fit) (x .3 .ensures) (x .5 .given .1) in
     not-all _ _ _ _ _ _ _ _ refl (l .0) (l .1) (sym (x .8 .ensures) ∙ x .9 .taken) (x .12 .ensures .differ (x .13 .taken)))
     (⊎-elim
     (λ x e.
-    let l = located _ (a .pages .now) _ _ _ _ (z .pre .0 .pages-fit) (x .3 .ensures) (x .5 .given .1) in
+    let l = span-found _ (a .pages .now) _ _ _ _ (z .pre .0 .pages-fit) (x .3 .ensures) (x .5 .given .1) in
     not-front _ _ _ _ _ _ _ _ refl (l .0) (l .1) (sym (x .8 .ensures) ∙ x .9 .left))
     (λ x e. absurd (omega (arith, x .0 .left, e, same-top (q .before .before)))))
     (c .before .if3 .came) in (
@@ -328,7 +328,7 @@ returns-6 c =
     let b = B (a .pages .now) in
     let w = W (a .lists .now) (a .s) (a .d) in
     let q = Q (a .lists .now) (a .s) (a .d) in
-    let l = located _ (a .pages .now) _ _ _ _ (z .pre .0 .pages-fit) (k .before .before .before .entry .ensures) (k .before .at .given .1) in
+    let l = span-found _ (a .pages .now) _ _ _ _ (z .pre .0 .pages-fit) (k .before .before .before .entry .ensures) (k .before .at .given .1) in
     let i = namedBy (r .quad-at .result) - 1 in
     let M : Met q (2 * a .s .e) (fnvOf key) i =
     meets (a .s) b w q key (2 * a .s .e) (p .t) (p .j) (r .quad-at .result) (omega arith) (p .inv .2) (quad r) (g .if3 .taken ∙ same-top (turn k)) (e .before .if4 .left) (p .inv .3) in

@@ -2,7 +2,7 @@
 use mathlib.Core.Path.{sym, subst}
 use Rattle.meta_dv_dict.specs.Answers.{Allocates}
 use Rattle.enter.specs.Answers.{Stamps, Chooses}
-use Rattle.enter.proofs.Steps.{reserves-none, reserves-unstamped, reserves-block}
+use Rattle.enter.proofs.Steps.{chooses-none, chooses-unstamped, chooses-block}
 use borrow.Author.Needs.{needs}
 use Rattle.enter.proofs.choose_block.Statement.{statement}
 use Rattle.enter.proofs.choose_block.Tie as tie
@@ -21,7 +21,7 @@ returns c =
     let f = c .before .before in
     let a = f .before .before .args in
     subst (Chooses (a .s) (a .lists .now) (a .k) (a .n)) (sym (c .refuse-block .ensures))
-    (reserves-none (a .s) (a .lists .now) (a .k) (a .n) _ (f .allocate-block .ensures) (c .before .match .keys2))
+    (chooses-none (a .s) (a .lists .now) (a .k) (a .n) _ (f .allocate-block .ensures) (c .before .match .keys2))
 
 next-stamp-requires : tie.Need-next-stamp-requires
 next-stamp-requires c κs = search needs
@@ -35,14 +35,14 @@ enum-told c = search needs
 returns-2 : tie.Need-returns-2
 returns-2 c =
     let f = c .before .before in
-    reserves-unstamped _ _ _ _ (subst (Stamps _ _) (c .enum-told .given .1) (f .next-stamp .ensures))
+    chooses-unstamped _ _ _ _ (subst (Stamps _ _) (c .enum-told .given .1) (f .next-stamp .ensures))
 
 returns-3 : tie.Need-returns-3
 returns-3 c =
     let f = c .before .before .before in
     let b = f .before .before in
     let a = b .before .before .before .before .args in
-    reserves-block (a .s) (a .lists .now) (a .k) (a .n) _ _ (subst (Allocates (a .s) (a .lists .now) (a .k) (a .n)) (b .allocated .given .1) (b .before .before .allocate-block .ensures))
+    chooses-block (a .s) (a .lists .now) (a .k) (a .n) _ _ (subst (Allocates (a .s) (a .lists .now) (a .k) (a .n)) (b .allocated .given .1) (b .before .before .allocate-block .ensures))
     (subst (Stamps (a .s) (a .lists .now)) (c .before .stamp .given .1) (f .next-stamp .ensures))
 
 pub choose-block-spec : {M : Type 1} → statement M

@@ -56,7 +56,7 @@ module _ (k : ℕ) (first second : Bytes) (st : State) (a : Name) (m : a ≡ ent
   is-tagged : k ≡ 2 → a ≡ entered 2 first second
   is-tagged z = m ∙ rw z
 
--- The name's text is judged the same by a kind's number.
+-- The kind may be written as its number.
 by-kind : (s : Sizes) (k j : ℕ) (first second pages lists : Bytes) (M : State → Name → Type 0) (r : AddAnswer) (pages′ lists′ : Bytes) → k ≡ j
     → Judged (textRefusal (entered j first second)) s M pages lists r pages′ lists′
     → Judged (textRefusal (entered k first second)) s M pages lists r pages′ lists′

@@ -1,4 +1,4 @@
--- The cleared bytes have room for the header, and the stores are those that specs/ has. Assumes nothing.
+-- The bytes set to zero have room for the header, and the stores are those that specs/ has. Assumes nothing.
 use Prim.Native.Nat.{ℕ}
 use mathlib.Core.Path.{_≡_}
 use native.Mathlib.Omega.{arith}

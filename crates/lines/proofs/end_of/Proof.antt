@@ -1,4 +1,4 @@
--- The place found lies between the start and the length. Assumes nothing.
+-- The position found lies between the start and the length. Assumes nothing.
 use Prim.Native.Nat.{_≤_, _-_}
 use borrow.Author.Needs.{needs}
 use lib.ListN.{length}

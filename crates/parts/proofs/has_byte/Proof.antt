@@ -1,4 +1,4 @@
--- Past the end no byte has-stored. Assumes nothing.
+-- Past the end there is no byte. Assumes nothing.
 use mathlib.Core.Path.{_≡_}
 use Prim.Native.Nat.{ℕ, _<_, _≤_}
 use mathlib.Core.Bool.{false}

@@ -11,7 +11,7 @@ use Rattle.slices.specs.Bytes.{Bytes, sameBytes}
 use Rattle.parts.proofs.has_stored.Statement.{statement}
 use Rattle.parts.proofs.has_stored.Tie as tie
 
--- The first of two bytes has-stored, and the second after it.
+-- The first of two bytes stands there, and the second after it.
 both : (a b : ℕ) (d : Bytes) → sameBytes (a ∷ b ∷ []) (take 2 d) ≡ (sameBytes (a ∷ []) (take 1 d) && sameBytes (b ∷ []) (take 1 (drop 1 d)))
 both a b [] = refl
 both a b (x ∷ []) = short (eqb a x)

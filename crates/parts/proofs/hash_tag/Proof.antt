@@ -1,4 +1,4 @@
--- The byte in front, and what has-stored behind it. Assumes nothing.
+-- The byte in front, and what stands behind it. Assumes nothing.
 use mathlib.Core.Path.{_∙_, ap}
 use Prim.Native.Nat.{ℕ}
 use mathlib.Core.List.{[], _∷_, _++_}

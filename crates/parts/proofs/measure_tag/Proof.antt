@@ -1,4 +1,4 @@
--- One byte more than what has-stored behind it. Assumes nothing.
+-- One byte more than what stands behind it. Assumes nothing.
 use native.Mathlib.Omega.{arith}
 use borrow.Author.Needs.{needs}
 use Rattle.parts.proofs.Laws.{tag-short, tag-long}

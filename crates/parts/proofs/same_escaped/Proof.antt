@@ -37,7 +37,7 @@ Inv-loop s stored at₀ i₀ at i = (i ≤ length s) × (at ≤ length stored) �
 abbrev μ-loop : tie.MeasureT-loop
 μ-loop s stored at₀ i₀ at i = length s - i
 
--- Past the test the form has-stored at `at`, and ends within what is stored.
+-- Past the test the form stands at `at`, and ends within what is stored.
 stood : (c : tie.After-width Inv-loop μ-loop) →
     let x = storedBytes (c .before .before .before .escape-byte .result) in
     let at = c .before .before .before .before .before .before .loop .at in

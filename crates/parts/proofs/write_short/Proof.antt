@@ -1,4 +1,4 @@
--- A byte, and what has-stored behind it. Assumes nothing.
+-- A byte, and what stands behind it. Assumes nothing.
 use mathlib.Core.Path.{ap, _∙_}
 use native.Mathlib.Omega.{arith}
 use lib.ListN.{length, length-set, length-take, length-drop}

@@ -53,10 +53,10 @@ whole b n v l =
     ∙ sets-eq (frequentId n v) b 0 (omega arith)
     ∙ ap (λ (m : ℕ). frequentId n v ++ drop m b) k
 
-written : (b now : Bytes) (n d v high : ℕ) → d ≡ n → n ≡ furtherBytes v → v < 2 ^ 30 → n < length b → high ≡ v / 256 ^ d
+fid-written : (b now : Bytes) (n d v high : ℕ) → d ≡ n → n ≡ furtherBytes v → v < 2 ^ 30 → n < length b → high ≡ v / 256 ^ d
     → now ≡ sets b (n - d + 1) (be d v) → (Length (n + 1) ≡ writeFidAnswer v (length b)) × (set now 0 (64 * n + high) ≡ writeFidBuffer v b)
 unfolding writeFidAnswer writeFidBuffer fid
-written b now n d v high p q l r h e =
+fid-written b now n d v high p q l r h e =
     let z : writeRefusal v (length b) ≡ none = write-done v (length b) l (omega arith) in
     let k : length (fid v) ≡ n + 1 = length-fid v ∙ ap (λ (m : ℕ). m + 1) (sym q) in
     let i : n - d + 1 ≡ 1 = omega arith in
@@ -142,7 +142,7 @@ returns-3 c =
     let a = c .before .before .before .before .before .before .args in
     let l = c .before .loop in
     let f = c .before .before .before .before .further-bytes in
-    written (a .buffer .now) (l .buffer) (f .result) (l .done) (a .value) (l .high) (omega arith) (f .ensures .0) (omega arith) (omega arith)
+    fid-written (a .buffer .now) (l .buffer) (f .result) (l .done) (a .value) (l .high) (omega arith) (f .ensures .0) (omega arith) (omega arith)
     (l .inv .1)
     (l .inv .2)
 

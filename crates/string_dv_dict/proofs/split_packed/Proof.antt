@@ -1,4 +1,4 @@
--- What was split, by the answer; what was not is not accepted. Assumes nothing.
+-- If the form was split, the answer says where. If not, it is not accepted. Assumes nothing.
 use mathlib.Core.Path.{_≡_, sym, _∙_}
 use borrow.Author.Needs.{needs}
 use Rattle.slices.proofs.Tests.{clash}

@@ -1,4 +1,4 @@
--- `utf8::is_plain` meets its contract. Assumes nothing.
+-- `utf8::is_ascii` meets its contract. Assumes nothing.
 use borrow.Author.Needs.{needs}
 use Rattle.utf8.proofs.Ascii.{masked}
 use Rattle.utf8.proofs.is_ascii.Statement.{statement}

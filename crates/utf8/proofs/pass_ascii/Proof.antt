@@ -1,4 +1,4 @@
--- `utf8::pass_plain` meets its contract. Assumes nothing.
+-- `utf8::pass_ascii` meets its contract. Assumes nothing.
 use borrow.Author.Needs.{needs}
 use Rattle.utf8.proofs.Ascii.{pass-on}
 use Rattle.utf8.proofs.pass_ascii.Statement.{statement}

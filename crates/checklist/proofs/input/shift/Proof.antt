@@ -1,4 +1,4 @@
--- A byte moves to a place before it; the length stays. Assumes nothing.
+-- A byte moves to an earlier position; the length stays. Assumes nothing.
 use mathlib.Core.Path.{_≡_}
 use Prim.Native.Nat.{_≤_, _-_}
 use native.Mathlib.Omega.{arith}

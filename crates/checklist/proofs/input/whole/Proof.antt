@@ -1,4 +1,4 @@
--- The place found lies in the bytes read. Assumes nothing.
+-- The position found lies in the bytes read. Assumes nothing.
 use Prim.Native.Nat.{_≤_, _-_}
 use lib.ListN.{length}
 use borrow.Author.Needs.{needs}
