@@ -6,7 +6,7 @@ ghost use lib.ListN.{length, take, drop};
 ghost use lib.Seq.{sets};
 ghost use Rattle.fnv.specs.Fnv.{fnvFrom};
 ghost use Rattle.slices.specs.Bytes.{sameBytes};
-ghost use Rattle.parts.specs.Parts.{escape, escaped, shortTag, longTag, tagBytes, bytesOf, storedBytes};
+ghost use Rattle.parts.specs.Parts.{formOf, firstByte, encodedByte, encodedEnd, encoded, bytesOf, storedBytes};
 
 pub enum Mode {
     Raw,
@@ -17,15 +17,44 @@ pub enum Mode {
 // The most bytes of a tag that is stored with its length in front.
 pub const SHORT: usize = 127;
 
-// One byte as it is stored.
+// How the bytes of a tag are stored.
+struct Form {
+    // Escaped and closed by '>', since the byte in front does not say the length.
+    long: bool,
+}
+
+// What is stored for one byte of a tag, or at its end.
 enum Stored {
+    Nothing,
     One(u8),
     Two(u8, u8),
 }
 
-fn escape_byte(b: u8) -> Stored
-    ensures { λ r. ⌜ storedBytes r ≡ escape b ⌝ }
+fn form_of(tag: &[u8]) -> Form
+    ensures { λ r. ⌜ r ≡ formOf (now (tag .entry)) ⌝ }
 {
+    Form {
+        long: tag.len() > SHORT,
+    }
+}
+
+// The byte in front of a tag.
+fn first_byte(tag: &[u8]) -> u8
+    ensures { λ r. ⌜ r ≡ firstByte (now (tag .entry)) ⌝ }
+{
+    let form = form_of(tag);
+    if form.long {
+        return 0;
+    }
+    tag.len() as u8
+}
+
+fn encode_byte(form: Form, b: u8) -> Stored
+    ensures { λ r. ⌜ storedBytes r ≡ encodedByte form b ⌝ }
+{
+    if !form.long {
+        return Stored::One(b);
+    }
     if b == b'\\' {
         return Stored::Two(b'\\', b'\\');
     }
@@ -35,42 +64,35 @@ fn escape_byte(b: u8) -> Stored
     Stored::One(b)
 }
 
+fn encode_end(form: Form) -> Stored
+    ensures { λ r. ⌜ storedBytes r ≡ encodedEnd form ⌝ }
+{
+    if form.long {
+        return Stored::One(b'>');
+    }
+    Stored::Nothing
+}
+
 fn width(u: Stored) -> usize
     ensures { λ r. ⌜ r ≡ length (storedBytes u) ⌝ }
 {
     match u {
+        Stored::Nothing => 0,
         Stored::One(_) => 1,
         Stored::Two(_, _) => 2,
     }
 }
 
-fn measure_escaped(s: &[u8]) -> usize
-    ensures { λ r. ⌜ r ≡ length (escaped (now (s .entry))) ⌝ }
+fn measure_encoded(form: Form, s: &[u8]) -> usize
+    ensures { λ r. ⌜ r ≡ length (encoded form (now (s .entry))) ⌝ }
 {
     let mut n = 0;
     let mut i = 0;
     while i < s.len() {
-        n += width(escape_byte(s[i]));
+        n += width(encode_byte(form, s[i]));
         i += 1;
     }
-    n
-}
-
-fn measure_closed(s: &[u8]) -> usize
-    ensures { λ r. ⌜ r ≡ length (escaped (now (s .entry)) ++ 62 ∷ []) ⌝ }
-{
-    measure_escaped(s) + 1
-}
-
-fn measure_tag(s: &[u8]) -> usize
-    requires { ⌜ length (tagBytes (now s)) < 2 ^ 64 ⌝ }
-    ensures { λ r. ⌜ r ≡ length (tagBytes (now (s .entry))) ⌝ }
-{
-    if s.len() <= SHORT {
-        1 + s.len()
-    } else {
-        1 + measure_closed(s)
-    }
+    n + width(encode_end(form))
 }
 
 // How many bytes are stored. Escaping at most doubles a tag and adds two; `requires` excludes overflow.
@@ -80,16 +102,17 @@ pub fn measure(mode: Mode, s: &[u8]) -> usize
 {
     match mode {
         Mode::Raw => s.len(),
-        Mode::Tag => measure_tag(s),
+        Mode::Tag => 1 + measure_encoded(form_of(s), s),
     }
 }
 
-// Stores one byte's form at `at`, and gives the position past it.
+// Stores it at `at`, and gives the position past it.
 fn put_stored(dst: &mut [u8], at: usize, u: Stored) -> usize
     requires { ⌜ at + length (storedBytes u) ≤ length (now dst) ⌝ }
     ensures { λ r. ⌜ (r ≡ at + length (storedBytes u)) × (now (dst .exit) ≡ sets (now (dst .entry)) at (storedBytes u)) ⌝ }
 {
     match u {
+        Stored::Nothing => at,
         Stored::One(a) => {
             dst[at] = a;
             at + 1
@@ -113,51 +136,18 @@ fn write_raw(s: &[u8], dst: &mut [u8])
     }
 }
 
-fn write_escaped(s: &[u8], dst: &mut [u8])
-    requires { ⌜ length (escaped (now s)) ≤ length (now dst) ⌝ }
-    ensures { λ _. ⌜ now (dst .exit) ≡ sets (now (dst .entry)) 0 (escaped (now (s .entry))) ⌝ }
+// Writes from `start` on.
+fn write_encoded(form: Form, s: &[u8], dst: &mut [u8], start: usize)
+    requires { ⌜ start + length (encoded form (now s)) ≤ length (now dst) ⌝ }
+    ensures { λ _. ⌜ now (dst .exit) ≡ sets (now (dst .entry)) start (encoded form (now (s .entry))) ⌝ }
 {
-    let mut at = 0;
+    let mut at = start;
     let mut i = 0;
     while i < s.len() {
-        at = put_stored(dst, at, escape_byte(s[i]));
+        at = put_stored(dst, at, encode_byte(form, s[i]));
         i += 1;
     }
-}
-
-fn write_closed(s: &[u8], dst: &mut [u8])
-    requires { ⌜ length (escaped (now s) ++ 62 ∷ []) ≤ length (now dst) ⌝ }
-    ensures { λ _. ⌜ now (dst .exit) ≡ sets (now (dst .entry)) 0 (escaped (now (s .entry)) ++ 62 ∷ []) ⌝ }
-{
-    write_escaped(s, dst);
-    dst[measure_escaped(s)] = b'>';
-}
-
-fn write_short(s: &[u8], dst: &mut [u8])
-    requires { ⌜ (length (now s) ≤ 127) × (length (shortTag (now s)) ≤ length (now dst)) ⌝ }
-    ensures { λ _. ⌜ now (dst .exit) ≡ sets (now (dst .entry)) 0 (shortTag (now (s .entry))) ⌝ }
-{
-    dst[0] = s.len() as u8;
-    write_raw(s, &mut dst[1..]);
-}
-
-fn write_long(s: &[u8], dst: &mut [u8])
-    requires { ⌜ length (longTag (now s)) ≤ length (now dst) ⌝ }
-    ensures { λ _. ⌜ now (dst .exit) ≡ sets (now (dst .entry)) 0 (longTag (now (s .entry))) ⌝ }
-{
-    dst[0] = 0;
-    write_closed(s, &mut dst[1..]);
-}
-
-fn write_tag(s: &[u8], dst: &mut [u8])
-    requires { ⌜ length (tagBytes (now s)) ≤ length (now dst) ⌝ }
-    ensures { λ _. ⌜ now (dst .exit) ≡ sets (now (dst .entry)) 0 (tagBytes (now (s .entry))) ⌝ }
-{
-    if s.len() <= SHORT {
-        write_short(s, dst);
-    } else {
-        write_long(s, dst);
-    }
+    put_stored(dst, at, encode_end(form));
 }
 
 // Writes the stored bytes at the front of dst. The bytes behind them stay.
@@ -167,7 +157,10 @@ pub fn write(mode: Mode, s: &[u8], dst: &mut [u8])
 {
     match mode {
         Mode::Raw => write_raw(s, dst),
-        Mode::Tag => write_tag(s, dst),
+        Mode::Tag => {
+            dst[0] = first_byte(s);
+            write_encoded(form_of(s), s, dst, 1);
+        }
     }
 }
 
@@ -175,37 +168,22 @@ fn hash_stored(h: u32, u: Stored) -> u32
     ensures { λ r. ⌜ r ≡ fnvFrom h (storedBytes u) ⌝ }
 {
     match u {
+        Stored::Nothing => h,
         Stored::One(a) => fnv::fnv_step(h, a),
         Stored::Two(a, b) => fnv::fnv_step(fnv::fnv_step(h, a), b),
     }
 }
 
-fn hash_escaped(start: u32, s: &[u8]) -> u32
-    ensures { λ r. ⌜ r ≡ fnvFrom start (escaped (now (s .entry))) ⌝ }
+fn hash_encoded(start: u32, form: Form, s: &[u8]) -> u32
+    ensures { λ r. ⌜ r ≡ fnvFrom start (encoded form (now (s .entry))) ⌝ }
 {
     let mut h = start;
     let mut i = 0;
     while i < s.len() {
-        h = hash_stored(h, escape_byte(s[i]));
+        h = hash_stored(h, encode_byte(form, s[i]));
         i += 1;
     }
-    h
-}
-
-fn hash_closed(start: u32, s: &[u8]) -> u32
-    ensures { λ r. ⌜ r ≡ fnvFrom start (escaped (now (s .entry)) ++ 62 ∷ []) ⌝ }
-{
-    fnv::fnv_step(hash_escaped(start, s), b'>')
-}
-
-fn hash_tag(start: u32, s: &[u8]) -> u32
-    ensures { λ r. ⌜ r ≡ fnvFrom start (tagBytes (now (s .entry))) ⌝ }
-{
-    if s.len() <= SHORT {
-        fnv::fnv_from(fnv::fnv_step(start, s.len() as u8), s)
-    } else {
-        hash_closed(fnv::fnv_step(start, 0), s)
-    }
+    hash_stored(h, encode_end(form))
 }
 
 // Extends the hash `start` by the stored bytes.
@@ -214,7 +192,7 @@ pub fn hash_on(start: u32, mode: Mode, s: &[u8]) -> u32
 {
     match mode {
         Mode::Raw => fnv::fnv_from(start, s),
-        Mode::Tag => hash_tag(start, s),
+        Mode::Tag => hash_encoded(fnv::fnv_step(start, first_byte(s)), form_of(s), s),
     }
 }
 
@@ -228,12 +206,13 @@ fn has_byte(stored: &[u8], at: usize, a: u8) -> bool
     a == stored[at]
 }
 
-// Whether one byte's form stands at `at`.
+// Whether it stands at `at`.
 fn has_stored(stored: &[u8], at: usize, u: Stored) -> bool
     requires { ⌜ at ≤ length (now stored) ⌝ }
     ensures { λ r. ⌜ r ≡ sameBytes (storedBytes u) (take (length (storedBytes u)) (drop at (now (stored .entry)))) ⌝ }
 {
     match u {
+        Stored::Nothing => true,
         Stored::One(a) => has_byte(stored, at, a),
         Stored::Two(a, b) => {
             if has_byte(stored, at, a) {
@@ -261,62 +240,26 @@ fn same_raw(s: &[u8], stored: &[u8]) -> bool
     true
 }
 
-fn same_escaped(s: &[u8], stored: &[u8]) -> bool
-    ensures { λ r. ⌜ r ≡ sameBytes (escaped (now (s .entry))) (now (stored .entry)) ⌝ }
+// Whether s is stored from `start` to the end.
+fn same_encoded(form: Form, s: &[u8], stored: &[u8], start: usize) -> bool
+    requires { ⌜ start ≤ length (now stored) ⌝ }
+    ensures { λ r. ⌜ r ≡ sameBytes (encoded form (now (s .entry))) (drop start (now (stored .entry))) ⌝ }
 {
-    let mut at = 0;
+    let mut at = start;
     let mut i = 0;
     while i < s.len() {
-        let u = escape_byte(s[i]);
+        let u = encode_byte(form, s[i]);
         if !has_stored(stored, at, u) {
             return false;
         }
         at += width(u);
         i += 1;
     }
-    at == stored.len()
-}
-
-fn same_closed(s: &[u8], stored: &[u8]) -> bool
-    ensures { λ r. ⌜ r ≡ sameBytes (escaped (now (s .entry)) ++ 62 ∷ []) (now (stored .entry)) ⌝ }
-{
-    let n = measure_escaped(s);
-    if stored.len() != n + 1 {
+    let u = encode_end(form);
+    if !has_stored(stored, at, u) {
         return false;
     }
-    if !has_byte(stored, n, b'>') {
-        return false;
-    }
-    same_escaped(s, &stored[..n])
-}
-
-fn same_short(s: &[u8], stored: &[u8]) -> bool
-    requires { ⌜ length (now s) ≤ 127 ⌝ }
-    ensures { λ r. ⌜ r ≡ sameBytes (shortTag (now (s .entry))) (now (stored .entry)) ⌝ }
-{
-    if !has_byte(stored, 0, s.len() as u8) {
-        return false;
-    }
-    same_raw(s, &stored[1..])
-}
-
-fn same_long(s: &[u8], stored: &[u8]) -> bool
-    ensures { λ r. ⌜ r ≡ sameBytes (longTag (now (s .entry))) (now (stored .entry)) ⌝ }
-{
-    if !has_byte(stored, 0, 0) {
-        return false;
-    }
-    same_closed(s, &stored[1..])
-}
-
-fn same_tag(s: &[u8], stored: &[u8]) -> bool
-    ensures { λ r. ⌜ r ≡ sameBytes (tagBytes (now (s .entry))) (now (stored .entry)) ⌝ }
-{
-    if s.len() <= SHORT {
-        same_short(s, stored)
-    } else {
-        same_long(s, stored)
-    }
+    at + width(u) == stored.len()
 }
 
 // Whether s in this mode is stored as the bytes `stored`.
@@ -325,6 +268,11 @@ pub fn same(mode: Mode, s: &[u8], stored: &[u8]) -> bool
 {
     match mode {
         Mode::Raw => same_raw(s, stored),
-        Mode::Tag => same_tag(s, stored),
+        Mode::Tag => {
+            if !has_byte(stored, 0, first_byte(s)) {
+                return false;
+            }
+            same_encoded(form_of(s), s, stored, 1)
+        }
     }
 }

@@ -1,4 +1,4 @@
--- One comparison or two, by the form. Assumes nothing.
+-- No comparison, one or two. Assumes nothing.
 use mathlib.Core.Path.{_≡_, refl, sym, _∙_}
 use Prim.Native.Nat.{ℕ, _+_}
 use mathlib.Core.Bool.{Bool, true, false, _&&_}
@@ -29,6 +29,9 @@ two : (a b at : ℕ) (s : Bytes) (t : Bool) → t ≡ sameBytes (a ∷ []) (take
     → (t && sameBytes (b ∷ []) (take 1 (drop (at + 1) s))) ≡ sameBytes (a ∷ b ∷ []) (take 2 (drop at s))
 two a b at s t e = rw (e, ← drop-drop 1 at s) (sym (both a b (drop at s)))
 
+enum-told : tie.Need-enum-told
+enum-told c = search needs
+
 enum-known-u : tie.Need-enum-known-u
 enum-known-u c = search needs
 
@@ -48,10 +51,13 @@ has-byte-requires-3 : tie.Need-has-byte-requires-3
 has-byte-requires-3 c κs = search needs
 
 returns : tie.Need-returns
-returns c = rw (c .before .before .u .given .1) (c .has-byte .ensures)
+returns c = rw (c .enum-told .given .1)
 
 returns-2 : tie.Need-returns-2
-returns-2 c =
+returns-2 c = rw (c .before .before .u .given .1) (c .has-byte .ensures)
+
+returns-3 : tie.Need-returns-3
+returns-3 c =
     let p = c .before .before in
     let u = p .before .before .u2 .given in
     let z = c .before .before .before .before .before .before .before .args in
@@ -59,8 +65,8 @@ returns-2 c =
     (c .has-byte3 .ensures
     ∙ (rw (c .before .if1 .taken) at (two (u .0 .0) (u .0 .1 .0) (z .at) (z .stored .now) (p .has-byte2 .result) (p .has-byte2 .ensures))))
 
-returns-3 : tie.Need-returns-3
-returns-3 c =
+returns-4 : tie.Need-returns-4
+returns-4 c =
     let p = c .before in
     let u = p .before .before .u2 .given in
     let z = c .before .before .before .before .before .before .args in
@@ -71,6 +77,7 @@ pub has-stored-spec : {M : Type 1} → statement M
 has-stored-spec =
     tie.close
     (tie.spec
+    enum-told
     enum-known-u
     has-byte-requires
     enum-known-u-2
@@ -79,4 +86,5 @@ has-stored-spec =
     has-byte-requires-3
     returns
     returns-2
-    returns-3)
+    returns-3
+    returns-4)

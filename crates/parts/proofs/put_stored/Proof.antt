@@ -1,4 +1,4 @@
--- One store or two, by the form. Assumes nothing.
+-- No store, one or two. Assumes nothing.
 use mathlib.Core.Path.{refl}
 use Prim.Native.Nat.{_+_, _≤_}
 use native.Mathlib.Numerals.{towards-suc}
@@ -14,6 +14,9 @@ one c = rw (c .before .u .given .1) at (c .before .before .before .pre)
 
 two : (c : tie.After-known-told2) → c .before .before .before .args .at + 2 ≤ length (c .before .before .before .args .dst .now)
 two c = rw (c .before .u2 .given .1) at (c .before .before .before .pre)
+
+enum-told : tie.Need-enum-told
+enum-told c = search needs
 
 enum-known-u : tie.Need-enum-known-u
 enum-known-u c = search needs
@@ -39,22 +42,26 @@ slice-write-dst-3 c = simp length-set (omega (arith, two c))
 add-result-2 : tie.Need-add-result-2
 add-result-2 c = search needs
 
+returns : tie.Need-returns
+returns c = rw (c .enum-told .given .1) (omega arith, refl)
+
 same-length : tie.Need-same-length
 same-length c = search needs
 
-returns : tie.Need-returns
-returns c = rw (c .before .u .given .1) (refl, refl)
+returns-2 : tie.Need-returns-2
+returns-2 c = rw (c .before .u .given .1) (refl, refl)
 
 same-length-2 : tie.Need-same-length-2
 same-length-2 c = search needs
 
-returns-2 : tie.Need-returns-2
-returns-2 c = rw (c .before .u2 .given .1) (refl, simp towards-suc)
+returns-3 : tie.Need-returns-3
+returns-3 c = rw (c .before .u2 .given .1) (refl, simp towards-suc)
 
 pub put-stored-spec : {M : Type 1} → statement M
 put-stored-spec =
     tie.close
     (tie.spec
+    enum-told
     enum-known-u
     slice-write-dst
     add-result
@@ -63,7 +70,8 @@ put-stored-spec =
     add-dst
     slice-write-dst-3
     add-result-2
-    same-length
     returns
+    same-length
+    returns-2
     same-length-2
-    returns-2)
+    returns-3)
