@@ -1,8 +1,9 @@
 -- The shared space: what an entry takes of it. Assumes nothing.
-use Prim.Native.Nat.{ℕ, zero, suc, _+_, _^_, _≤_, _<_}
+use Prim.Native.Nat.{ℕ, zero, suc, _+_, _*_, _^_, _≤_, _<_}
 use mathlib.Core.Path.{_≡_, refl, ap}
 use mathlib.Core.Logic.{_≢_, inl, inr}
 use mathlib.Core.Bool.{true, false}
+use native.Mathlib.Nat.{suc-mul}
 use native.Mathlib.Omega.{arith}
 use native.Mathlib.Decide.{ℕ-discrete}
 use lib.Dec.{ltb}
@@ -81,7 +82,7 @@ grown-other s sp d n e h = rw (ne-eqb d e (λ q. h (omega arith)))
 
 -- ---- all pages
 
-sum-same : (f g : ℕ → ℕ) (n : ℕ) → ((e : ℕ) → e < n → f e ≡ g e) → sum f n ≡ sum g n
+pub sum-same : (f g : ℕ → ℕ) (n : ℕ) → ((e : ℕ) → e < n → f e ≡ g e) → sum f n ≡ sum g n
 sum-same f g zero h = refl
 sum-same f g (suc n) h = omega (arith, sum-same f g n (λ e l. h e (omega arith)), h n (omega arith))
 
@@ -93,6 +94,10 @@ sum-change f g d (suc n) l h = go (ℕ-discrete n d) (sum-change f g d n)
     go : Dec (n ≡ d) → (d < n → ((e : ℕ) → e ≢ d → f e ≡ g e) → sum f n + g d ≡ sum g n + f d) → sum f (suc n) + g d ≡ sum g (suc n) + f d
     go (yes e) ih = omega (arith, sum-same f g n (λ k m. h k (omega arith)), ap f e, ap g e)
     go (no q) ih = omega (arith, ih (omega arith) h, h n q)
+
+pub sum-most : (f : ℕ → ℕ) (e n : ℕ) → ((k : ℕ) → k < n → f k ≤ e) → sum f n ≤ n * e
+sum-most f e zero h = omega arith
+sum-most f e (suc n) h = omega (arith, suc-mul n e, sum-most f e n (λ k l. h k (omega arith)), h n (omega arith))
 
 sum-part : (f : ℕ → ℕ) (d n : ℕ) → d < n → f d ≤ sum f n
 sum-part f d zero l = absurd (omega arith)

@@ -76,8 +76,8 @@ counted-main s lists k d r x q e f = ap (λ (j : ℕ). countIn s (wordAt lists (
 pub sum-bound : (e t k n : ℕ) → t ≤ k * e → n ≤ e → t + n ≤ (k + 1) * e
 sum-bound e t k n l m = let q : (k + 1) * e ≡ k * e + e = rw add-one (suc-mul k e) in omega arith
 
-pub sum-few : (e t k : ℕ) → t ≤ k * e → k ≤ 4 → t ≤ 4 * e
-sum-few e t k l m = let q : k * e ≤ 4 * e = mul-le-mul-right e m in omega arith
+pub sum-few : (e t k : ℕ) → t ≤ k * e → k ≤ kinds → t ≤ kinds * e
+sum-few e t k l m = let q : k * e ≤ kinds * e = mul-le-mul-right e m in omega arith
 
 pub stamps-bad : (s : Sizes) (lists : Bytes) (k : ℕ) → k < kinds → countIn s (countWord lists k) ≡ C.Bad → Stamps s lists T.Bad
 stamps-bad s lists k l e =
@@ -87,7 +87,7 @@ stamps-bad s lists k l e =
 count-word : {s : Sizes} {st : State} {pages lists : Bytes} (S : Stands s st pages lists) (k : ℕ) → k < kinds → countWord lists k ≡ length (st .part k .names)
 count-word {s} {st} {pages} {lists} S k l = sym (counted-by s (countWord lists k) _ (main-counted S k l) .0)
 
-pub stamps-sum : (s : Sizes) (lists : Bytes) (t : ℕ) → t ≤ 4 * s .e → t ≡ sum (countWord lists) kinds → Stamps s lists (T.At t)
+pub stamps-sum : (s : Sizes) (lists : Bytes) (t : ℕ) → t ≤ kinds * s .e → t ≡ sum (countWord lists) kinds → Stamps s lists (T.At t)
 stamps-sum s lists t l e =
     record {
       range = l;

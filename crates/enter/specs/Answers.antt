@@ -11,6 +11,7 @@ use Rattle.refusals.specs.declared.Refusal.the-variants as W
 use Rattle.refusals.specs.declared.Checked.{Checked}
 use Rattle.refusals.specs.declared.Checked.the-variants.{Legal, Illegal}
 use Rattle.layout.specs.declared.Sizes.{Sizes}
+use Rattle.layout.specs.Sizes.{kinds}
 use Rattle.bytes_buffer.specs.declared.Spot.{Spot}
 use Rattle.bytes_buffer.specs.declared.Spot.the-variants.{Current, Next, NoPage, Bad}
 use Rattle.meta_dv_dict.specs.declared.Allocated.{Allocated}
@@ -57,7 +58,7 @@ blockRefused A.Bad = R.Refused W.Unopened
 -- ---- the next stamp
 
 abbrev pub StampBelow : Sizes → Stamp → Type 0
-StampBelow s (T.At t) = t ≤ 4 * s .e
+StampBelow s (T.At t) = t ≤ kinds * s .e
 StampBelow s T.Bad = Unit {0}
 
 pub record Stamps (s : Sizes) (lists : Bytes) (r : Stamp) : Type 0 where
@@ -71,7 +72,7 @@ chosenBy stamp none = R.Refused W.NoBlock
 chosenBy stamp (some g) = R.Block g stamp
 
 abbrev pub ChosenBounded : Sizes → ℕ → Chosen → Type 0
-ChosenBounded s n (R.Block g stamp) = (g < s .b) × (n / 2 ^ s .w < s .b) × (stamp ≤ 4 * s .e)
+ChosenBounded s n (R.Block g stamp) = (g < s .b) × (n / 2 ^ s .w < s .b) × (stamp ≤ kinds * s .e)
 ChosenBounded s n (R.Refused why) = (why ≡ W.Unopened) ⊎ (why ≡ W.NoBlock)
 
 pub record Chooses (s : Sizes) (lists : Bytes) (k n : ℕ) (r : Chosen) : Type 0 where
@@ -105,7 +106,7 @@ pub record PlanFits (s : Sizes) (len : ℕ) (x : Plan) : Type 0 where
   pub room : HasRoom s len (x .spot)
   pub block : x .g < s .b
   pub local : x .n / 2 ^ s .w < s .b
-  pub stamp : x .stamp ≤ 4 * s .e
+  pub stamp : x .stamp ≤ kinds * s .e
 
 abbrev pub PlanBounded : Sizes → ℕ → Planned → Type 0
 PlanBounded s len (P.Ready x) = PlanFits s len x

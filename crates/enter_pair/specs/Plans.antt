@@ -9,6 +9,7 @@ use Rattle.words.specs.Words.{wordAt}
 use Rattle.refusals.specs.declared.Refusal.{Refusal}
 use Rattle.refusals.specs.declared.Refusal.the-variants as W
 use Rattle.layout.specs.declared.Sizes.{Sizes}
+use Rattle.layout.specs.Sizes.{kinds}
 use Rattle.bytes_buffer.specs.Pages.{allPages}
 use Rattle.bytes_buffer.specs.declared.Spot.{Spot}
 use Rattle.bytes_buffer.specs.declared.Spot.the-variants.{NoPage}
@@ -63,7 +64,7 @@ pub record PairPlanFits (s : Sizes) (f size len : ℕ) (x : PairPlan) : Type 0 w
   pub room : HasRoom s len (x .pair)
   pub block : x .g < s .b
   pub local : x .n / 2 ^ s .w < s .b
-  pub stamp : x .stamp ≤ 4 * s .e
+  pub stamp : x .stamp ≤ kinds * s .e
 
 abbrev pub PairPlanBounded : Sizes → ℕ → ℕ → ℕ → PairPlanned → Type 0
 PairPlanBounded s f size len (Ready x) = PairPlanFits s f size len x

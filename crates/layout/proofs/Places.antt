@@ -30,11 +30,11 @@ unfolding dictAt
 dict-from s d = omega arith
 
 -- Behind all of them.
-pub dict-end : (s : Sizes) → dictAt s dictionaries ≡ 64 + s .n + 18 * s .e
+pub dict-end : (s : Sizes) → dictAt s dictionaries ≡ 64 + s .n + 3 * dictionaries * s .e
 unfolding dictAt
 dict-end s = omega arith
 
-pub dict-within : (s : Sizes) (d : ℕ) → d < dictionaries → dictAt s d + 3 * s .e ≤ 64 + s .n + 18 * s .e
+pub dict-within : (s : Sizes) (d : ℕ) → d < dictionaries → dictAt s d + 3 * s .e ≤ 64 + s .n + 3 * dictionaries * s .e
 dict-within s d l = omega (arith, dict-below s d dictionaries l, dict-end s)
 
 -- ---- blocks
@@ -43,17 +43,17 @@ pub blocks-below : (s : Sizes) (k k′ : ℕ) → k < k′ → blocksAt s k + s 
 unfolding blocksAt
 blocks-below s k k′ l = omega (arith, cell-below (s .b) k k′ l)
 
-pub blocks-from : (s : Sizes) (k : ℕ) → 64 + s .n + 18 * s .e ≤ blocksAt s k
+pub blocks-from : (s : Sizes) (k : ℕ) → 64 + s .n + 3 * dictionaries * s .e ≤ blocksAt s k
 unfolding blocksAt
 blocks-from s k = omega (arith, dict-end s)
 
-pub blocks-end : (s : Sizes) → blocksAt s kinds ≡ 64 + s .n + 18 * s .e + 4 * s .b
+pub blocks-end : (s : Sizes) → blocksAt s kinds ≡ 64 + s .n + 3 * dictionaries * s .e + kinds * s .b
 unfolding blocksAt
 blocks-end s = omega (arith, dict-end s)
 
 -- ---- lists
 
-pub list-bytes : (s : Sizes) → listBytes s ≡ 8 * (64 + s .n + 18 * s .e + 5 * s .b)
+pub list-bytes : (s : Sizes) → listBytes s ≡ 8 * (64 + s .n + 3 * dictionaries * s .e + (kinds + 1) * s .b)
 unfolding listBytes
 list-bytes s = refl
 

@@ -52,5 +52,11 @@ pageSize s = 2 ^ s .p
 unfoldable pub pageBytes : Sizes → ℕ
 pageBytes s = s .n * pageSize s
 
+-- Three words for each entry number of a dictionary, one for each block of a kind, one for each global block.
 unfoldable pub listBytes : Sizes → ℕ
-listBytes s = 8 * (64 + s .n + 18 * s .e + 5 * s .b)
+listBytes s = 8 * (64 + s .n + 3 * dictionaries * s .e + (kinds + 1) * s .b)
+
+-- As document 01 says it.
+pub list-bytes-said : (s : Sizes) → listBytes s ≡ 8 * (64 + s .n + 18 * s .e + 5 * s .b)
+unfolding listBytes
+list-bytes-said s = refl

@@ -20,6 +20,7 @@ use Rattle.bytes_buffer.specs.declared.Spot.the-variants.{Bad}
 use Rattle.bytes_buffer.specs.declared.Lowest.the-variants.{Page}
 use Rattle.bytes_buffer.specs.Pages.{Space, sum, allPages}
 use Rattle.bytes_buffer.specs.Spots.{lowestOf, spotIn}
+use Rattle.bytes_buffer.proofs.Pages.{sum-same, sum-most}
 use Rattle.bytes_buffer.proofs.Plans.{untaken-known, plan-says}
 use Rattle.bytes_dictionary.specs.declared.Counted.the-variants.{Entries}
 use Rattle.bytes_dictionary.specs.Reading.{countIn}
@@ -92,16 +93,7 @@ module _ {s : Sizes} {st : State} {pages lists : Bytes} (S : Stands s st pages l
 
   pub pages-same : allPages (S .store .space) ≡ allPages (st .space)
   unfolding allPages
-  pages-same =
-      omega (
-        arith,
-        taken-same 0 (omega arith),
-        taken-same 1 (omega arith),
-        taken-same 2 (omega arith),
-        taken-same 3 (omega arith),
-        taken-same 4 (omega arith),
-        taken-same 5 (omega arith),
-      )
+  pages-same = sum-same _ _ dictionaries taken-same
 
   pub untaken-is : wordAt lists untakenAt ≡ allPages (st .space)
   untaken-is = S .stored .paged .lowest ∙ pages-same
@@ -119,16 +111,7 @@ module _ {s : Sizes} {st : State} {pages lists : Bytes} (S : Stands s st pages l
 
   -- Every name used a local number up.
   pub stamp-is : stampOf (st .blocks) ≡ sum (λ k. length (st .part k .names)) kinds
-  stamp-is = omega (arith, next-count 0, next-count 1, next-count 2, next-count 3)
+  stamp-is = sum-same _ _ kinds (λ k l. next-count k)
 
   pub stamp-small : stampOf (st .blocks) < 2 ^ 64
-  stamp-small =
-      omega (
-        arith,
-        stamp-is,
-        S .good .sizes .e,
-        S .good .part 0 .fewNames,
-        S .good .part 1 .fewNames,
-        S .good .part 2 .fewNames,
-        S .good .part 3 .fewNames,
-      )
+  stamp-small = omega (arith, stamp-is, S .good .sizes .e, sum-most (λ k. length (st .part k .names)) (s .e) kinds (λ k l. S .good .part k .fewNames))

@@ -31,9 +31,9 @@ use Rattle.meta_dv_dict.proofs.Pigeons.{picked-below}
 
 -- The words of the blocks, all of them.
 abbrev pub BlockWord : Sizes → ℕ → Type 0
-BlockWord s i = (blocksAt s 0 ≤ i) × (i < blocksAt s 0 + 5 * s .b)
+BlockWord s i = (blocksAt s 0 ≤ i) × (i < blocksAt s 0 + (kinds + 1) * s .b)
 
-first-end : (s : Sizes) → blocksAt s 0 + 4 * s .b ≡ blocksAt s kinds
+first-end : (s : Sizes) → blocksAt s 0 + kinds * s .b ≡ blocksAt s kinds
 unfolding blocksAt
 first-end s = omega arith
 
