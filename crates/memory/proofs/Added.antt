@@ -26,6 +26,7 @@ use Rattle.model.specs.Kinds.{row}
 use Rattle.model.specs.State.{Stamped, Part, State, stampOf}
 use Rattle.model.specs.Steps.{nameHead, newHead, keyOf, partAfter, spaceAfter, extended}
 use Rattle.model.specs.Keys.{keysOf}
+use Rattle.model.proofs.Table.{ownerKind, main-kind, heads-kind}
 use Rattle.model.proofs.Legal.{legal-kind}
 use Rattle.model.proofs.Keys.{length-keys, keys-after}
 use Rattle.model.proofs.Decide.{Entering}
@@ -37,30 +38,8 @@ use Rattle.memory.proofs.Counts.{main-count, head-count}
 
 -- ---- no two kinds share a dictionary
 
--- The kind that has the dictionary.
-abbrev kindOf : ℕ → ℕ
-kindOf zero = 0
-kindOf (suc zero) = 0
-kindOf (suc (suc zero)) = 1
-kindOf (suc (suc (suc zero))) = 2
-kindOf (suc (suc (suc (suc d)))) = 3
-
-main-kind : (k : ℕ) → k < kinds → kindOf (row k .mainAt) ≡ k
-main-kind zero l = refl
-main-kind (suc zero) l = refl
-main-kind (suc (suc zero)) l = refl
-main-kind (suc (suc (suc zero))) l = refl
-main-kind (suc (suc (suc (suc k)))) l = absurd (omega arith)
-
-heads-kind : (k : ℕ) → k < kinds → kindOf (row k .headsAt) ≡ k
-heads-kind zero l = refl
-heads-kind (suc zero) l = refl
-heads-kind (suc (suc zero)) l = refl
-heads-kind (suc (suc (suc zero))) l = refl
-heads-kind (suc (suc (suc (suc k)))) l = absurd (omega arith)
-
-kinds-apart : (d e j k : ℕ) → kindOf d ≡ j → kindOf e ≡ k → j ≢ k → d ≢ e
-kinds-apart d e j k p q n r = n (sym p ∙ ap kindOf r ∙ q)
+kinds-apart : (d e j k : ℕ) → ownerKind d ≡ j → ownerKind e ≡ k → j ≢ k → d ≢ e
+kinds-apart d e j k p q n r = n (sym p ∙ ap ownerKind r ∙ q)
 
 -- ---- one entry more
 

@@ -13,10 +13,11 @@ use Rattle.slices.specs.Bytes.{Bytes, sameBytes}
 use Rattle.slices.proofs.Bytes.{bytes-true, bytes-same}
 use Rattle.slices.proofs.Tests.{Split, split}
 use Rattle.layout.specs.declared.Sizes.{Sizes}
-use Rattle.layout.specs.Sizes.{kinds, dictionaries}
+use Rattle.layout.specs.Sizes.{kinds}
 use Rattle.bytes_index.specs.Search.{HoldsEntries, Searched}
 use Rattle.bytes_index.specs.declared.Probe.the-variants.{At, Free, Bad}
 use Rattle.model.specs.Kinds.{row}
+pub use Rattle.model.proofs.Table.{main-below, head-below, head-apart}
 use Rattle.model.specs.State.{State, entryNumber}
 use Rattle.model.specs.Keys.{keysOf}
 use Rattle.model.specs.Good.{Different}
@@ -64,29 +65,6 @@ number-none key xs f = go (entryNumber key xs) refl
     go : (o : Option ℕ) → entryNumber key xs ≡ o → o ≡ none
     go none e = refl
     go (some i) e = absurd (f i (entry-of-number i key xs e))
-
--- ---- the dictionaries of the table of kinds
-
-pub main-below : (k : ℕ) → row k .mainAt < dictionaries
-main-below zero = omega arith
-main-below (suc zero) = omega arith
-main-below (suc (suc zero)) = omega arith
-main-below (suc (suc (suc zero))) = omega arith
-main-below (suc (suc (suc (suc k)))) = omega arith
-
-pub head-below : (k : ℕ) → row k .headsAt < dictionaries
-head-below zero = omega arith
-head-below (suc zero) = omega arith
-head-below (suc (suc zero)) = omega arith
-head-below (suc (suc (suc zero))) = omega arith
-head-below (suc (suc (suc (suc k)))) = omega arith
-
-pub head-apart : (k : ℕ) → row k .paired ≡ true → row k .headsAt ≡ row k .mainAt → ⊥
-head-apart zero p e = omega arith
-head-apart (suc zero) p e = let z : _≡_ {A = ℕ} 0 1 = cc in omega arith
-head-apart (suc (suc zero)) p e = let z : _≡_ {A = ℕ} 0 1 = cc in omega arith
-head-apart (suc (suc (suc zero))) p e = omega arith
-head-apart (suc (suc (suc (suc k)))) p e = let z : _≡_ {A = ℕ} 0 1 = cc in omega arith
 
 -- ---- the answers of a search
 

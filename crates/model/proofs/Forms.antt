@@ -1,5 +1,5 @@
--- Legal names that store the same are equal, by each row of the table of kinds. Assumes nothing.
-use Prim.Native.Nat.{ℕ, zero, suc}
+-- Legal names that store the same are equal, by each way of storing. Assumes nothing.
+use Prim.Native.Nat.{ℕ}
 use mathlib.Core.Path.{_≡_, refl, sym, ap, _∙_}
 use mathlib.Core.Bool.{true, false}
 use mathlib.Core.Option.{none}
@@ -10,8 +10,9 @@ use Rattle.ranked_pair_iri_dv_dict.specs.Split.{headLength}
 use Rattle.string_dv_dict.specs.Packed.{packed, textIn, tagIn}
 use Rattle.string_dv_dict.proofs.Laws.{parts-back}
 use Rattle.model.specs.Names.{Name}
-use Rattle.model.specs.Kinds.{row}
+use Rattle.model.specs.Kinds.{Way, splits, whole, packs, pairs, hasHeads, headBy, restBy, row}
 use Rattle.model.specs.Steps.{checks}
+use Rattle.model.proofs.Table.{firstOnly, packsTag, no-second, needs-tag}
 use Rattle.model.proofs.Legal.{legal}
 
 packed-same : (x t y u : Bytes) → isEmpty t ≡ false → isEmpty u ≡ false → packed x t ≡ packed y u → (x ≡ y) × (t ≡ u)
@@ -24,18 +25,26 @@ module _ (s : Sizes) (a b : Name) (p : checks s a ≡ none) (q : checks s b ≡ 
   equal : a .kind ≡ b .kind → a .first ≡ b .first → a .second ≡ b .second → a ≡ b
   equal k f g = λ i. record { kind = k i; first = f i; second = g i }
 
-  -- Two legal names of a kind are equal where the rests are, and in a paired kind the heads.
-  row-same : (k : ℕ) → a .kind ≡ k → b .kind ≡ k → (row k .paired ≡ true → row k .head a ≡ row k .head b) → row k .rest a ≡ row k .rest b → a ≡ b
-  row-same zero x y h r =
-      let f : a .first ≡ b .first = cc (h refl, take-append-drop (headLength (a .first)) (a .first), take-append-drop (headLength (b .first)) (b .first)) in
-      equal (x ∙ sym y) f (legal s a p .shape .second (rw x) ∙ sym (legal s b q .shape .second (rw y)))
-  row-same (suc zero) x y h r = equal (x ∙ sym y) r (legal s a p .shape .second (rw x) ∙ sym (legal s b q .shape .second (rw y)))
-  row-same (suc (suc zero)) x y h r =
-      let k = packed-same (a .first) (a .second) (b .first) (b .second) (legal s a p .tag (rw x)) (legal s b q .tag (rw y)) r in
-      equal (x ∙ sym y) (k .0) (k .1)
-  row-same (suc (suc (suc zero))) x y h r = equal (x ∙ sym y) (h refl) r
-  row-same (suc (suc (suc (suc k)))) x y h r = equal (x ∙ sym y) r (legal s a p .shape .second (rw x) ∙ sym (legal s b q .shape .second (rw y)))
+  module _ (k : a .kind ≡ b .kind) where
+    same-way : row (b .kind) .way ≡ row (a .kind) .way
+    same-way = ap (λ (j : ℕ). row j .way) (sym k)
+
+    -- Of both the second part is empty.
+    no-seconds : firstOnly (row (a .kind) .way) ≡ true → a .second ≡ b .second
+    no-seconds o =
+        legal s a p .shape .second (no-second (a .kind) o) ∙ sym (legal s b q .shape .second (no-second (b .kind) (ap firstOnly same-way ∙ o)))
+
+    -- Two legal names of a kind are equal where the rests are, and in a paired kind the heads.
+    way-same : (w : Way) → row (a .kind) .way ≡ w → (hasHeads w ≡ true → headBy w a ≡ headBy w b) → restBy w a ≡ restBy w b → a ≡ b
+    way-same splits e h r =
+        let f : a .first ≡ b .first = cc (h refl, take-append-drop (headLength (a .first)) (a .first), take-append-drop (headLength (b .first)) (b .first)) in
+        equal k f (no-seconds (ap firstOnly e))
+    way-same whole e h r = equal k r (no-seconds (ap firstOnly e))
+    way-same packs e h r =
+        let t = packed-same (a .first) (a .second) (b .first) (b .second) (legal s a p .tag (needs-tag (a .kind) (ap packsTag e))) (legal s b q .tag (needs-tag (b .kind) (ap packsTag (same-way ∙ e)))) r in
+        equal k (t .0) (t .1)
+    way-same pairs e h r = equal k (h refl) r
 
   pub names-same : a .kind ≡ b .kind → (row (a .kind) .paired ≡ true → row (a .kind) .head a ≡ row (a .kind) .head b)
       → row (a .kind) .rest a ≡ row (a .kind) .rest b → a ≡ b
-  names-same k h r = row-same (a .kind) refl (sym k) h r
+  names-same k h r = way-same k (row (a .kind) .way) refl h r

@@ -27,7 +27,8 @@ use Rattle.model.proofs.Decide.{Entering, entering}
 use Rattle.model.proofs.Legal.{legal-kind}
 use Rattle.model.proofs.Lengths.{head-short, key-short}
 use Rattle.model.proofs.Parts.{sum-more, later, part-good}
-use Rattle.model.proofs.Pages.{heads-at, main-at, space-all}
+use Rattle.model.proofs.Table.{main-below, head-below}
+use Rattle.model.proofs.Pages.{space-all}
 
 pub opened-good : (s : Sizes) → InRange s → Good s opened
 opened-good s r = record {
@@ -98,7 +99,7 @@ module _ (s : Sizes) (st : State) (a : Name) (g : ℕ) (G : Good s st) (e : Ente
 
   beyond-of : (d : ℕ) → dictionaries ≤ d → spaceAfter s st a d .taken ≡ zero
   beyond-of = space-all s st a (λ d x. dictionaries ≤ d → x .taken ≡ zero) (G .beyond)
-      (λ x h. absurd (omega (arith, heads-at (a .kind)))) (λ x h. absurd (omega (arith, main-at (a .kind))))
+      (λ x h. absurd (omega (arith, head-below (a .kind)))) (λ x h. absurd (omega (arith, main-below (a .kind))))
 
   unused-of : (k l : ℕ) → took (s .w) (st .blocks) (a .kind) g .next k ≤ l * 2 ^ s .w → took (s .w) (st .blocks) (a .kind) g .blockOf k l ≡ zero
   unused-of k l h = go (ℕ-discrete (a .kind) k)

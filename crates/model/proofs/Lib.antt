@@ -1,4 +1,5 @@
 -- Laws of the state and its steps, and the theorem on lists of calls.
+pub mod Table
 pub mod Legal
 pub mod Names
 pub mod Decide

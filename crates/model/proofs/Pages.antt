@@ -1,13 +1,11 @@
 -- Pages: the spaces after the entries of an add. Assumes nothing.
-use Prim.Native.Nat.{ℕ, zero, suc, _<_}
+use Prim.Native.Nat.{ℕ}
 use mathlib.Core.Path.{_≡_, sym, subst}
 use mathlib.Core.Logic.{inl, inr}
-use native.Mathlib.Omega.{arith}
 use native.Mathlib.Decide.{ℕ-discrete}
 use lib.ListN.{length}
 use Rattle.slices.proofs.Tests.{Split, split}
 use Rattle.layout.specs.declared.Sizes.{Sizes}
-use Rattle.layout.specs.Sizes.{dictionaries}
 use Rattle.bytes_buffer.specs.Pages.{Space, grown, grownAt}
 use Rattle.bytes_buffer.proofs.Pages.{grown-same, grown-other}
 use Rattle.model.specs.Names.{Name}
@@ -23,20 +21,6 @@ grown-all P s f d n u h i = go (ℕ-discrete d i)
     go : Dec (d ≡ i) → P i (grownAt s f d n i)
     go (yes e) = subst (λ (j : ℕ). P j (grownAt s f d n j)) e (subst (λ (x : Space). P d x) (sym (grown-same s f d n)) h)
     go (no q) = subst (λ (x : Space). P i x) (sym (grown-other s f d n i (λ e. q (sym e)))) (u i)
-
-pub heads-at : (k : ℕ) → row k .headsAt < dictionaries
-heads-at zero = omega arith
-heads-at (suc zero) = omega arith
-heads-at (suc (suc zero)) = omega arith
-heads-at (suc (suc (suc zero))) = omega arith
-heads-at (suc (suc (suc (suc k)))) = omega arith
-
-pub main-at : (k : ℕ) → row k .mainAt < dictionaries
-main-at zero = omega arith
-main-at (suc zero) = omega arith
-main-at (suc (suc zero)) = omega arith
-main-at (suc (suc (suc zero))) = omega arith
-main-at (suc (suc (suc (suc k)))) = omega arith
 
 -- What holds of all spaces and of every grown one holds after an add.
 module _ (s : Sizes) (st : State) (a : Name) where

@@ -1,8 +1,7 @@
 -- What a memory can hold of a good state determines the state. So one memory stands for one state. Assumes nothing.
-use Prim.Native.Nat.{ℕ, zero, suc, _*_, _^_, _<_, _≤_}
+use Prim.Native.Nat.{ℕ, zero, _*_, _^_, _<_, _≤_}
 use mathlib.Core.Path.{_≡_, refl, sym, ap, _∙_}
 use mathlib.Core.Logic.{inl, inr}
-use mathlib.Core.Bool.{false}
 use mathlib.Core.List.{List, [], _∷_}
 use native.Mathlib.Omega.{arith}
 use borrow.Author.Tests.{ltb-true, ltb-false}
@@ -12,9 +11,9 @@ use Rattle.slices.proofs.Tests.{Split, split}
 use Rattle.layout.specs.declared.Sizes.{Sizes}
 use Rattle.layout.specs.Sizes.{kinds, dictionaries}
 use Rattle.meta_dv_dict.specs.Blocks.{Block, free, held}
-use Rattle.model.specs.Kinds.{row}
 use Rattle.model.specs.State.{Stamped, Part, State}
 use Rattle.model.specs.Good.{NamesOf, Good}
+use Rattle.model.proofs.Table.{no-pair}
 use Rattle.model.proofs.Legal.{legal-kind}
 
 -- Two states are alike in what a memory holds: the parts of the kinds, the blocks' owners below b, the dictionaries' spaces.
@@ -26,13 +25,6 @@ pub record Alike (s : Sizes) (x y : State) : Type 0 where
 no-names : (s : Sizes) (k t : ℕ) (xs : List Stamped) → kinds ≤ k → NamesOf s k t xs → xs ≡ []
 no-names s k t [] h o = refl
 no-names s k t (x ∷ xs) h o = absurd (omega (arith, legal-kind s (x .name) (o .0), o .1))
-
-no-pair : (k : ℕ) → kinds ≤ k → row k .paired ≡ false
-no-pair zero h = absurd (omega arith)
-no-pair (suc zero) h = absurd (omega arith)
-no-pair (suc (suc zero)) h = absurd (omega arith)
-no-pair (suc (suc (suc zero))) h = absurd (omega arith)
-no-pair (suc (suc (suc (suc k)))) h = refl
 
 module _ (s : Sizes) where
   no-part : (x : State) → Good s x → (k : ℕ) → kinds ≤ k → x .part k ≡ record { names = []; heads = [] }
