@@ -7,9 +7,9 @@ use Rattle.refusals.specs.declared.Refusal.the-variants.{Unopened}
 use Rattle.layout.specs.declared.Sizes.{Sizes}
 use Rattle.model.specs.Answers.{OpenAnswer}
 use Rattle.model.specs.State.{State, opened}
-use Rattle.model.specs.Calls.{Event, add, find, read, count, Before, nothing, beforeOf, Demand3}
+use Rattle.model.specs.Calls.{Event, add, find, read, count, effects, Before, nothing, beforeOf, freshNames, Demand3}
 use Rattle.model.specs.Runs.{RefusedFor, Step, Runs}
-use Rattle.model.specs.Order.{ordered, freshNames}
+use Rattle.model.specs.Order.{ordered}
 use Rattle.model.proofs.Never.{never-unopened}
 use Rattle.model.proofs.Lists.{lists-from, demand-3 as opened-demand, stands-for as opened-stands-for}
 use Rattle.memory.specs.Stands.{Stands}
@@ -81,7 +81,7 @@ module _ (s : Sizes) (pages lists pages₁ lists₁ : Bytes) (O : OpenPost s pag
   brought-demand-3-after = after-list s (nothing s) es z (λ e z′ c. brought-opened s begin z′ (e ∷ es) fresh (z, b, c))
 
   -- The memory after the list stands for all fresh names in the order of their adds, across the kinds.
-  pub brought-stands-for : (st : State) × Stands s st (z .pages) (z .lists) × (ordered st ≡ freshNames [] es)
+  pub brought-stands-for : (st : State) × Stands s st (z .pages) (z .lists) × (ordered st ≡ freshNames [] (effects es))
   brought-stands-for =
       let k = opened-stands-for Memory s (StandsIn s) begin z es (runs s begin z es b) (fresh .good .sizes) fresh in
       (k .0, k .1, k .3)

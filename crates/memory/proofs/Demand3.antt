@@ -5,8 +5,8 @@ use Rattle.slices.specs.Bytes.{Bytes}
 use Rattle.layout.specs.declared.Sizes.{Sizes}
 use Rattle.model.specs.Answers.{OpenAnswer}
 use Rattle.model.specs.State.{State}
-use Rattle.model.specs.Calls.{Event, nothing, beforeOf, Demand3}
-use Rattle.model.specs.Order.{ordered, freshNames}
+use Rattle.model.specs.Calls.{Event, effects, nothing, beforeOf, freshNames, Demand3}
+use Rattle.model.specs.Order.{ordered}
 use Rattle.memory.specs.Stands.{Stands}
 use Rattle.memory.specs.Promises.{OpenPost}
 use Rattle.memory.specs.Lists.{Memory, InTurn, Bringing, Called, Calls, Brought, Demand3After}
@@ -47,5 +47,5 @@ module _ (s : Sizes) (pages lists pages₁ lists₁ : Bytes) (O : OpenPost s pag
   demand-3-after = brought-demand-3-after s pages lists pages₁ lists₁ O es z brought
 
   -- The memory after the list stands for all fresh names in the order of their adds, across the kinds.
-  pub stands-for : (st : State) × Stands s st (z .pages) (z .lists) × (ordered st ≡ freshNames [] es)
+  pub stands-for : (st : State) × Stands s st (z .pages) (z .lists) × (ordered st ≡ freshNames [] (effects es))
   stands-for = brought-stands-for s pages lists pages₁ lists₁ O es z brought

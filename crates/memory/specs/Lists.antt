@@ -9,7 +9,7 @@ use Rattle.layout.specs.declared.Sizes.{Sizes}
 use Rattle.layout.specs.Sizes.{kinds, pageBytes, listBytes}
 use Rattle.model.specs.Names.{Name}
 use Rattle.model.specs.Answers.{ReadAnswer, CountAnswer}
-use Rattle.model.specs.Calls.{Event, add, find, read, count, Before, Issued, freshKinds, howMany}
+use Rattle.model.specs.Calls.{Event, add, find, read, count, effects, Before, Issued, freshKinds, howMany}
 use Rattle.memory.specs.Promises.{AddPost, FindPost, ReadPost, CountPost}
 
 -- Both slices in full.
@@ -57,11 +57,11 @@ Brought s m es z = InTurn (Brings s) m es z
 -- Demand 3's sentences on a count and a read after the list. Its calls were es, o was there before them, and they left z.
 pub record Demand3After (s : Sizes) (o : Before) (es : List Event) (z : Memory) : Type 0 where
   -- A count of a kind gives how many adds of the kind had said fresh by then.
-  pub counts : (k : ℕ) (r : CountAnswer) (z′ : Memory) → Brings s z (count k r) z′ → k < kinds → r ≡ CountAnswer.count (howMany (o .count k) k (freshKinds es))
+  pub counts : (k : ℕ) (r : CountAnswer) (z′ : Memory) → Brings s z (count k r) z′ → k < kinds → r ≡ CountAnswer.count (howMany (o .count k) k (freshKinds (effects es)))
   -- A read gives exactly its name for each number issued by then, if the buffer is long enough,
   pub read-name : (n : ℕ) (x y : Bytes) (r : ReadAnswer) (a : Name) (z′ : Memory) → Brings s z (read n x r y) z′
-      → Issued o a n es → length (a .first) + length (a .second) ≤ length x
+      → Issued o a n (effects es) → length (a .first) + length (a .second) ≤ length x
       → (r ≡ ReadAnswer.name (a .kind) (length (a .first)) (length (a .second))) × (y ≡ a .first ++ a .second ++ drop (length (a .first) + length (a .second)) x)
   -- and none for every other number.
   pub read-none : (n : ℕ) (x y : Bytes) (r : ReadAnswer) (z′ : Memory) → Brings s z (read n x r y) z′
-      → ((a : Name) → ¬ Issued o a n es) → (r ≡ ReadAnswer.absent) × (y ≡ x)
+      → ((a : Name) → ¬ Issued o a n (effects es)) → (r ≡ ReadAnswer.absent) × (y ≡ x)

@@ -11,7 +11,7 @@ pub mod Pages
 pub mod Good
 pub mod Numbers
 pub mod Unique
-pub mod Adds
+pub mod Effects
 pub mod Order
 pub mod Lists
 pub mod Never

@@ -1,6 +1,6 @@
 -- Demand 3: of every list of calls, from any good state, and from a freshly opened dictionary. Assumes nothing.
 use Prim.Native.Nat.{ℕ, _≤_, _<_}
-use mathlib.Core.Path.{_≡_, refl, ap, _∙_}
+use mathlib.Core.Path.{_≡_, refl, sym, ap, _∙_}
 use mathlib.Core.Logic.{_↔_, inl, inr, ⊎-map}
 use mathlib.Core.List.{List, [], _∷_, _++_}
 use mathlib.Core.Option.{Option, none, some}
@@ -18,13 +18,13 @@ use Rattle.model.specs.Answers.{AddAnswer, FindAnswer, ReadAnswer, Count
 use Rattle.model.specs.State.{State, opened, numberOf, nameOf}
 use Rattle.model.specs.Steps.{checks, addAnswer, findBy, findChecked, findAnswer, readAnswer, readBuffer, countAnswer}
 use Rattle.model.specs.Good.{Good}
-use Rattle.model.specs.Calls.{Event, add, find, read, count, At, Gave, Accepted, Before, nothing, stepsRule, beforeOf, Given, Issued, freshKinds, howMany, Demand3}
+use Rattle.model.specs.Calls.{Event, add, find, read, count, Effect, fresh, known, no-effect, effect, effects, At, Gave, Accepted, Before, nothing, stepsRule, beforeOf, Given, Issued, freshNames, freshKinds, howMany, Demand3}
 use Rattle.model.specs.Runs.{RightAnswer, afterCall, Runs}
-use Rattle.model.specs.Order.{ordered, freshNames}
+use Rattle.model.specs.Order.{ordered}
 use Rattle.model.proofs.Numbers.{read-back, number-back}
 use Rattle.model.proofs.Good.{opened-good, add-good}
 use Rattle.model.proofs.Order.{order-by}
-use Rattle.model.proofs.Adds.{keeps, came, gave, was-known, was-new, blocks-by, count-by}
+use Rattle.model.proofs.Effects.{did, keeps, given-by, issued-by, blocks-by, count-by}
 
 -- ---- a list whose answers are those of the states
 
@@ -54,13 +54,16 @@ pub record Starts (s : Sizes) (st : State) (o : Before) : Type 0 where
   pub count : (k : ℕ) → length (st .part k .names) ≡ o .count k
   pub rule : (ks : List ℕ) (k : ℕ) → o .rule ks k ≡ stepsRule s st ks k
 
-issued-given : (o : Before) (a : Name) (n : ℕ) (es : List Event) → Issued o a n es → Given o a n es
+issued-given : (o : Before) (a : Name) (n : ℕ) (es : List Effect) → Issued o a n es → Given o a n es
 issued-given o a n [] i = i
-issued-given o a n (add b r ∷ es) (inl i) = inl (i .0, inl (i .1))
-issued-given o a n (add b r ∷ es) (inr i) = inr (issued-given o a n es i)
-issued-given o a n (find b r ∷ es) i = issued-given o a n es i
-issued-given o a n (read j x r y ∷ es) i = issued-given o a n es i
-issued-given o a n (count k r ∷ es) i = issued-given o a n es i
+issued-given o a n (fresh b m ∷ es) i = ⊎-map (λ u. u) (issued-given o a n es) i
+issued-given o a n (known b m ∷ es) i = inr (issued-given o a n es i)
+issued-given o a n (no-effect ∷ es) i = issued-given o a n es i
+
+-- What an add gave is what its name was given.
+gave-given : (o : Before) (a : Name) (r : AddAnswer) (n : ℕ) (xs : List Event) → Gave r n → Given o a n (effects (add a r ∷ xs))
+gave-given o a r n xs (inl e) = rw e (inl (refl, refl))
+gave-given o a r n xs (inr e) = rw e (inl (refl, refl))
 
 module _ (s : Sizes) (st : State) (G : Good s st) (o : Before) (S : Starts s st o) where
   abbrev now : List Event → State
@@ -73,43 +76,30 @@ module _ (s : Sizes) (st : State) (G : Good s st) (o : Before) (S : Starts s st 
   good (read n x r y ∷ es) = good es
   good (count k r ∷ es) = good es
 
-  -- What an add was given is the name's number,
-  given : (a : Name) (n : ℕ) (es : List Event) → Model s st es → Given o a n es → numberOf s (now es) a ≡ some n
+  -- What a name was given is its number,
+  given : (a : Name) (n : ℕ) (es : List Event) → Model s st es → Given o a n (effects es) → numberOf s (now es) a ≡ some n
   given a n [] h i = S .given a n i
-  given a n (add b r ∷ es) h (inl i) = rw (i .0) (gave s (now es) (good es) b r (h .0) n (i .1))
-  given a n (add b r ∷ es) h (inr i) = keeps s (now es) (good es) b a n (given a n es (h .1) i)
-  given a n (find b r ∷ es) h i = given a n es (h .1) i
-  given a n (read j x r y ∷ es) h i = given a n es (h .1) i
-  given a n (count k r ∷ es) h i = given a n es (h .1) i
+  given a n (e ∷ es) h i = given-by s (now es) (good es) o _ (effects es) (effect e) (did s (now es) e (h .0)) a n (given a n es (h .1)) i
 
   -- and a name's number was issued to it.
-  issued : (a : Name) (n : ℕ) (es : List Event) → Model s st es → numberOf s (now es) a ≡ some n → Issued o a n es
-  issued a n [] h e = S .had a n e
-  issued a n (add b r ∷ es) h e = ⊎-map (λ u. u) (λ u. issued a n es (h .1) u) (came s (now es) (good es) b r (h .0) a n e)
-  issued a n (find b r ∷ es) h e = issued a n es (h .1) e
-  issued a n (read j x r y ∷ es) h e = issued a n es (h .1) e
-  issued a n (count k r ∷ es) h e = issued a n es (h .1) e
+  issued : (a : Name) (n : ℕ) (es : List Event) → Model s st es → numberOf s (now es) a ≡ some n → Issued o a n (effects es)
+  issued a n [] h i = S .had a n i
+  issued a n (e ∷ es) h i = issued-by s (now es) (good es) o _ (effects es) (effect e) (did s (now es) e (h .0)) a n (issued a n es (h .1)) i
 
-  blocks : (es : List Event) → Model s st es → now es .blocks ≡ blocksAfter s (st .blocks) (freshKinds es)
+  had-given : (a : Name) (n : ℕ) (es : List Event) → Model s st es → numberOf s (now es) a ≡ some n → Given o a n (effects es)
+  had-given a n es h i = issued-given o a n (effects es) (issued a n es h i)
+
+  blocks : (es : List Event) → Model s st es → now es .blocks ≡ blocksAfter s (st .blocks) (freshKinds (effects es))
   blocks [] h = refl
-  blocks (add b r ∷ es) h = blocks-by s (now es) (good es) b r (h .0) (st .blocks) (freshKinds es) (blocks es (h .1))
-  blocks (find b r ∷ es) h = blocks es (h .1)
-  blocks (read j x r y ∷ es) h = blocks es (h .1)
-  blocks (count k r ∷ es) h = blocks es (h .1)
+  blocks (e ∷ es) h = blocks-by s (now es) _ (effects es) (effect e) (did s (now es) e (h .0)) (st .blocks) (blocks es (h .1))
 
-  counted : (k : ℕ) (es : List Event) → Model s st es → length (now es .part k .names) ≡ howMany (o .count k) k (freshKinds es)
+  counted : (k : ℕ) (es : List Event) → Model s st es → length (now es .part k .names) ≡ howMany (o .count k) k (freshKinds (effects es))
   counted k [] h = S .count k
-  counted k (add b r ∷ es) h = count-by s (now es) (good es) b r (h .0) k (o .count k) (freshKinds es) (counted k es (h .1))
-  counted k (find b r ∷ es) h = counted k es (h .1)
-  counted k (read j x r y ∷ es) h = counted k es (h .1)
-  counted k (count j r ∷ es) h = counted k es (h .1)
+  counted k (e ∷ es) h = count-by s (now es) _ (effects es) (effect e) (did s (now es) e (h .0)) k (o .count k) (counted k es (h .1))
 
-  in-front : (es : List Event) → Model s st es → ordered (now es) ≡ freshNames (ordered st) es
+  in-front : (es : List Event) → Model s st es → ordered (now es) ≡ freshNames (ordered st) (effects es)
   in-front [] h = refl
-  in-front (add b r ∷ es) h = order-by s (now es) (good es) b r (h .0) (freshNames (ordered st) es) (in-front es (h .1))
-  in-front (find b r ∷ es) h = in-front es (h .1)
-  in-front (read j x r y ∷ es) h = in-front es (h .1)
-  in-front (count j r ∷ es) h = in-front es (h .1)
+  in-front (e ∷ es) h = order-by s (now es) _ (good es) (effects es) (effect e) (did s (now es) e (h .0)) (ordered st) (in-front es (h .1))
 
   -- At each place the answer is that of the state before it.
   at : (e : Event) (xs es : List Event) → Model s st es → At e xs es → RightAnswer s (now xs) e × Model s st xs
@@ -120,32 +110,32 @@ module _ (s : Sizes) (st : State) (G : Good s st) (o : Before) (S : Starts s st 
   -- ---- the sentences
 
   module _ (es : List Event) (h : Model s st es) where
-    same : (xs : List Event) (a b : Name) (r : AddAnswer) (m n : ℕ) → At (add a r) xs es → Gave r m → Given o b n xs → (m ≡ n) ↔ (a ≡ b)
+    same : (xs : List Event) (a b : Name) (r : AddAnswer) (m n : ℕ) → At (add a r) xs es → Gave r m → Given o b n (effects xs) → (m ≡ n) ↔ (a ≡ b)
     same xs a b r m n c g f =
         let t : (r ≡ addAnswer s (now xs) a) × Model s st xs = at (add a r) xs es h c in
         let ys : List Event = add a r ∷ xs in
-        let p : numberOf s (now ys) a ≡ some m = given a m ys t (inl (refl, g)) in
-        let q : numberOf s (now ys) b ≡ some n = given b n ys t (inr f) in
+        let p : numberOf s (now ys) a ≡ some m = given a m ys t (gave-given o a r m xs g) in
+        let q : numberOf s (now ys) b ≡ some n = keeps s (now xs) (good xs) a b n (given b n xs (t .1) f) in
         let u : nameOf s (now ys) m ≡ some a = read-back s (now ys) (good ys) a m p in
         let v : nameOf s (now ys) n ≡ some b = read-back s (now ys) (good ys) b n q in
         (λ e. cc, λ e. cc)
 
-    first : (xs : List Event) (a : Name) (r : AddAnswer) (n : ℕ) → At (add a r) xs es → Gave r n → ((m : ℕ) → ¬ Given o a m xs) → r ≡ AddAnswer.fresh n
+    first : (xs : List Event) (a : Name) (r : AddAnswer) (n : ℕ) → At (add a r) xs es → Gave r n → ((m : ℕ) → ¬ Given o a m (effects xs)) → r ≡ AddAnswer.fresh n
     first xs a r n c (inl e) g = e
     first xs a r n c (inr e) g =
         let t : (r ≡ addAnswer s (now xs) a) × Model s st xs = at (add a r) xs es h c in
-        absurd (g n (issued-given o a n xs (issued a n xs (t .1) (was-known s (now xs) (good xs) a r (t .0) n e))))
+        absurd (g n (had-given a n xs (t .1) (did s (now xs) (add a (AddAnswer.known n)) (sym e ∙ t .0) .0)))
 
-    later : (xs : List Event) (a : Name) (r : AddAnswer) (n m : ℕ) → At (add a r) xs es → Gave r n → Given o a m xs → r ≡ AddAnswer.known m
+    later : (xs : List Event) (a : Name) (r : AddAnswer) (n m : ℕ) → At (add a r) xs es → Gave r n → Given o a m (effects xs) → r ≡ AddAnswer.known m
     later xs a r n m c (inl e) g =
         let t : (r ≡ addAnswer s (now xs) a) × Model s st xs = at (add a r) xs es h c in
         let p : numberOf s (now xs) a ≡ some m = given a m xs (t .1) g in
-        let q : numberOf s (now xs) a ≡ none = was-new s (now xs) (good xs) a r (t .0) n e .0 in
+        let q : numberOf s (now xs) a ≡ none = did s (now xs) (add a (AddAnswer.fresh n)) (sym e ∙ t .0) .1 .new in
         cc
     later xs a r n m c (inr e) g =
         let t : (r ≡ addAnswer s (now xs) a) × Model s st xs = at (add a r) xs es h c in
         let p : numberOf s (now xs) a ≡ some m = given a m xs (t .1) g in
-        let q : numberOf s (now xs) a ≡ some n = was-known s (now xs) (good xs) a r (t .0) n e in
+        let q : numberOf s (now xs) a ≡ some n = did s (now xs) (add a (AddAnswer.known n)) (sym e ∙ t .0) .0 in
         let z : n ≡ m = cc in
         e ∙ ap AddAnswer.known z
 
@@ -159,39 +149,40 @@ module _ (s : Sizes) (st : State) (G : Good s st) (o : Before) (S : Starts s st 
         go none e = e
 
     find-after : (xs : List Event) (a : Name) (r : FindAnswer) (n : ℕ) → At (find a r) xs es → Accepted r
-        → Given o a n xs → r ≡ FindAnswer.known n
+        → Given o a n (effects xs) → r ≡ FindAnswer.known n
     find-after xs a r n c ok g =
         let t : (r ≡ findAnswer s (now xs) a) × Model s st xs = at (find a r) xs es h c in
         looks xs a r (t .0) ok ∙ rw (given a n xs (t .1) g)
 
     find-before : (xs : List Event) (a : Name) (r : FindAnswer) → At (find a r) xs es → Accepted r
-        → ((n : ℕ) → ¬ Given o a n xs) → r ≡ FindAnswer.absent
+        → ((n : ℕ) → ¬ Given o a n (effects xs)) → r ≡ FindAnswer.absent
     find-before xs a r c ok g = looks xs a r (at (find a r) xs es h c .0) ok ∙ go (numberOf s (now xs) a) refl
       where
         go : (i : Option ℕ) → numberOf s (now xs) a ≡ i → findBy i ≡ FindAnswer.absent
         go none e = refl
-        go (some n) e = absurd (g n (issued-given o a n xs (issued a n xs (at (find a r) xs es h c .1) e)))
+        go (some n) e = absurd (g n (had-given a n xs (at (find a r) xs es h c .1) e))
 
-    in-order : (xs : List Event) (a : Name) (n : ℕ) → At (add a (AddAnswer.fresh n)) xs es → o .rule (freshKinds xs) (a .kind) ≡ some n
+    in-order : (xs : List Event) (a : Name) (n : ℕ) → At (add a (AddAnswer.fresh n)) xs es → o .rule (freshKinds (effects xs)) (a .kind) ≡ some n
     in-order xs a n c =
         let t : (AddAnswer.fresh n ≡ addAnswer s (now xs) a) × Model s st xs = at (add a (AddAnswer.fresh n)) xs es h c in
-        S .rule (freshKinds xs) (a .kind) ∙ rw (← blocks xs (t .1)) (was-new s (now xs) (good xs) a (AddAnswer.fresh n) (t .0) n refl .1)
+        let d = did s (now xs) (add a (AddAnswer.fresh n)) (t .0) in
+        S .rule (freshKinds (effects xs)) (a .kind) ∙ rw (← blocks xs (t .1), d .1 .block) (ap some (d .2))
 
-    counts : (xs : List Event) (k : ℕ) (r : CountAnswer) → At (count k r) xs es → k < kinds → r ≡ CountAnswer.count (howMany (o .count k) k (freshKinds xs))
+    counts : (xs : List Event) (k : ℕ) (r : CountAnswer) → At (count k r) xs es → k < kinds → r ≡ CountAnswer.count (howMany (o .count k) k (freshKinds (effects xs)))
     counts xs k r c l =
         let t : (r ≡ countAnswer (now xs) k) × Model s st xs = at (count k r) xs es h c in
         t .0 ∙ rw (lt-leb kinds k l) (ap CountAnswer.count (counted k xs (t .1)))
 
     read-name : (xs : List Event) (n : ℕ) (x y : Bytes) (r : ReadAnswer) (a : Name) → At (read n x r y) xs es
-        → Issued o a n xs → size a ≤ length x
+        → Issued o a n (effects xs) → size a ≤ length x
         → (r ≡ ReadAnswer.name (a .kind) (length (a .first)) (length (a .second))) × (y ≡ a .first ++ a .second ++ drop (size a) x)
     read-name xs n x y r a c i l =
         let t : ((r ≡ readAnswer s (now xs) n x) × (y ≡ readBuffer s (now xs) n x)) × Model s st xs = at (read n x r y) xs es h c in
-        let q : nameOf s (now xs) n ≡ some a = read-back s (now xs) (good xs) a n (given a n xs (t .1) (issued-given o a n xs i)) in
+        let q : nameOf s (now xs) n ≡ some a = read-back s (now xs) (good xs) a n (given a n xs (t .1) (issued-given o a n (effects xs) i)) in
         (t .0 .0 ∙ rw (q, le-leb (size a) (length x) l), t .0 .1 ∙ rw (q, le-leb (size a) (length x) l))
 
     read-none : (xs : List Event) (n : ℕ) (x y : Bytes) (r : ReadAnswer) → At (read n x r y) xs es
-        → ((a : Name) → ¬ Issued o a n xs) → (r ≡ ReadAnswer.absent) × (y ≡ x)
+        → ((a : Name) → ¬ Issued o a n (effects xs)) → (r ≡ ReadAnswer.absent) × (y ≡ x)
     read-none xs n x y r c g =
         let t : ((r ≡ readAnswer s (now xs) n x) × (y ≡ readBuffer s (now xs) n x)) × Model s st xs = at (read n x r y) xs es h c in
         let q : nameOf s (now xs) n ≡ none = go (t .1) (nameOf s (now xs) n) refl in
@@ -243,12 +234,12 @@ module _ (Mem : Type 0) (s : Sizes) (Stands : State → Mem → Type 0) (m z : M
     demand-3 = holds s opened (opened-good s R) (nothing s) (opened-starts s) es (model Mem s Stands opened m h es z runs .0)
 
     -- The memory then stands for all fresh names in the order of their adds, across the kinds.
-    pub stands-for : (st : State) × Stands st z × Good s st × (ordered st ≡ freshNames [] es)
+    pub stands-for : (st : State) × Stands st z × Good s st × (ordered st ≡ freshNames [] (effects es))
     stands-for =
         let G : Good s opened = opened-good s R in
         let k = model Mem s Stands opened m h es z runs in (
           stateOf s opened es,
           k .1,
           good s opened G (nothing s) (opened-starts s) es,
-          in-front s opened G (nothing s) (opened-starts s) es (k .0) ∙ ap (λ (ns : List Name). freshNames ns es) opened-empty,
+          in-front s opened G (nothing s) (opened-starts s) es (k .0) ∙ ap (λ (ns : List Name). freshNames ns (effects es)) opened-empty,
         )

@@ -9,14 +9,14 @@ use Rattle.slices.specs.Updates.{upd}
 use Rattle.layout.specs.declared.Sizes.{Sizes}
 use Rattle.layout.specs.Sizes.{kinds}
 use Rattle.model.specs.Names.{Name}
-use Rattle.model.specs.Answers.{AddAnswer}
 use Rattle.model.specs.State.{Stamped, Part, State, stampOf}
-use Rattle.model.specs.Steps.{Decision, refuse, found, enter, decide, partAfter, extended, answerBy, stateBy, addAnswer, afterAdd}
+use Rattle.model.specs.Steps.{partAfter, extended}
 use Rattle.model.specs.Good.{NamesOf, Good}
-use Rattle.model.specs.Order.{withStamp, allWith, orderedBelow, ordered, nameIfFresh}
+use Rattle.model.specs.Order.{withStamp, allWith, orderedBelow, ordered}
+use Rattle.model.specs.Calls.{Effect, fresh, known, no-effect, freshNames}
 use Rattle.model.proofs.Legal.{legal-kind}
-use Rattle.model.proofs.Decide.{Entering, entering}
 use Rattle.model.proofs.Good.{stamp-more}
+use Rattle.model.proofs.Effects.{Did}
 
 -- No name has a stamp that is not below the bound.
 pub none-yet : (s : Sizes) (k t u : ℕ) (xs : List Stamped) → NamesOf s k t xs → t ≤ u → withStamp u xs ≡ []
@@ -59,14 +59,9 @@ module _ (s : Sizes) (st : State) (a : Name) (G : Good s st) (legal : a .kind < 
   front : orderedBelow parts (suc (stampOf (st .blocks))) ≡ a ∷ orderedBelow (st .part) (stampOf (st .blocks))
   front = rw (alone kinds legal, below (stampOf (st .blocks)) (omega arith))
 
-pub order-by : (s : Sizes) (st : State) (G : Good s st) (a : Name) (r : AddAnswer) → r ≡ addAnswer s st a → (ns : List Name) → ordered st ≡ ns
-    → ordered (afterAdd s st a) ≡ nameIfFresh a r ns
+pub order-by : (s : Sizes) (st z : State) → Good s st → (es : List Effect) (e : Effect) → Did s st e z → (ns : List Name) → ordered st ≡ freshNames ns es
+    → ordered z ≡ freshNames ns (e ∷ es)
 unfolding ordered extended
-order-by s st G a r right ns h = go (decide s st a) refl right
-  where
-    go : (d : Decision) → decide s st a ≡ d → r ≡ answerBy s st a d → ordered (stateBy s st a d) ≡ nameIfFresh a r ns
-    go (refuse i) e q = rw q h
-    go (found i) e q = rw q h
-    go (enter g) e q =
-        let u : Entering s st a g = entering s st a g e in
-        rw (q, ← h, stamp-more s st a g G u) (front s st a G (legal-kind s a (u .legal)))
+order-by s st z G es (fresh a n) d ns h = rw (d .3, ← h, stamp-more s st a (d .0) G (d .1)) (front s st a G (legal-kind s a (d .1 .legal)))
+order-by s st z G es (known a n) d ns h = rw (d .1) h
+order-by s st z G es no-effect d ns h = rw d h

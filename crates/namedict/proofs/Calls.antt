@@ -1,17 +1,21 @@
 -- The numbers that exported calls returned tell answers, and the promises hold of these answers. Assumes nothing.
 use Prim.Native.Nat.{ℕ}
-use mathlib.Core.Path.{_≡_, sym, ap, subst, _∙_}
+use mathlib.Core.Path.{_≡_, refl, sym, ap, subst, _∙_}
 use mathlib.Core.Logic.{inl, inr}
 use mathlib.Core.List.{List, [], _∷_, map}
 use Rattle.slices.specs.Bytes.{Bytes}
 use Rattle.layout.specs.declared.Sizes.{Sizes}
-use Rattle.model.specs.Calls.{At}
+use Rattle.model.specs.Names.{Name}
+use Rattle.model.specs.Answers.{AddAnswer}
+use Rattle.model.specs.Calls.{Event, effect, effects, At}
 use Rattle.memory.specs.Promises.{OpenPost, AddPost, FindPost, ReadPost, CountPost}
 use Rattle.memory.specs.Lists.{Memory, Called, Brought}
+use Rattle.namedict.specs.declared.NamedictNumbered.{NamedictNumbered}
 use Rattle.namedict.specs.Numbers.{openNumber, addNumbers, findNumbers, nameNumbers, countNumbers}
 use Rattle.namedict.specs.Answers.{openOf, addOf, findOf, readOf, countOf}
 use Rattle.namedict.specs.Returned.{OpenReturned, Returned, add, find, read, count, Exported, ExportedBrings, ExportedBrought, eventOf}
-use Rattle.namedict.proofs.Tell.{open-back, add-back, find-back, read-back, count-back}
+use Rattle.namedict.specs.Demand3.{effectIn, effectsIn}
+use Rattle.namedict.proofs.Tell.{refusal-back, open-back, add-back, find-back, read-back, count-back}
 
 -- ---- one answer: its numbers, the answer back from them, and what is promised of it
 
@@ -60,9 +64,31 @@ calls-tell s m z (e ∷ es) c =
     let b : ExportedBrings s (c .0) e z = c .2 in
     (c .0, calls-tell s m (c .0) es (c .1), (b .0, b .1, call-tells (b .0) z e (b .2)))
 
+-- A call of the list got the memory as the calls xs before it left it.
+pub call-at : (s : Sizes) (m z : Memory) (e : Returned) (xs es : List Returned) → ExportedBrought s m es z → At e xs es
+    → (y y′ : Memory) × ExportedBrought s m xs y × ExportedBrings s y e y′
+call-at s m z e xs [] c p = absurd p
+call-at s m z e xs (x ∷ es) c (inl p) = rw (p .0, p .1) (c .0, z, c .1, c .2)
+call-at s m z e xs (x ∷ es) c (inr p) = call-at s m (c .0) e xs es (c .1) p
+
 pub exact-at : (s : Sizes) (m z : Memory) (e : Returned) (xs es : List Returned) → ExportedBrought s m es z → At e xs es → Exact e
-exact-at s m z e xs [] c p = absurd p
-exact-at s m z e xs (x ∷ es) c (inl p) =
-    let b : ExportedBrings s (c .0) x z = c .2 in
-    subst Exact (sym (p .0)) (exact-by (b .0) z x (b .2))
-exact-at s m z e xs (x ∷ es) c (inr p) = exact-at s m (c .0) e xs es (c .1) p
+exact-at s m z e xs es c p = let k = call-at s m z e xs es c p in exact-by (k .3 .0) (k .1) e (k .3 .2)
+
+-- ---- what the calls did, by their numbers and by the answers that these tell
+
+effect-of : (a : Name) (x : AddAnswer) → effectIn (add a (addNumbers x)) ≡ effect (Event.add a x)
+effect-of a (AddAnswer.fresh n) = refl
+effect-of a (AddAnswer.known n) = refl
+effect-of a (AddAnswer.refused why) = rw (refusal-back why .1)
+
+effect-tells : (e : Returned) → Exact e → effectIn e ≡ effect (eventOf e)
+effect-tells (add a r) q = ap (λ (x : NamedictNumbered). effectIn (add a x)) q ∙ effect-of a (addOf r)
+effect-tells (find a r) q = refl
+effect-tells (read n b r c) q = refl
+effect-tells (count k r) q = refl
+
+pub effects-tell : (s : Sizes) (m z : Memory) (es : List Returned) → ExportedBrought s m es z → effectsIn es ≡ effects (map eventOf es)
+effects-tell s m z [] c = refl
+effects-tell s m z (e ∷ es) c =
+    let b : ExportedBrings s (c .0) e z = c .2 in
+    rw (effect-tells e (exact-by (b .0) z e (b .2)), effects-tell s m (c .0) es (c .1))

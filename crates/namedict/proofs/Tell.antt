@@ -19,7 +19,7 @@ use Rattle.namedict.specs.Numbers.{yesNo, writtenNumbers, valueNumbers, 
 use Rattle.namedict.specs.Answers.{refusalOf, yesOf, writtenOf, valueOf, unpackedOf, openOf, addOf, findOf, readOf, countOf}
 
 -- A refusal by its number, and no refusal has the number 0.
-refusal-back : (why : Refusal) → (refusalOf (refusalNumber why) ≡ why) × (eqb (refusalNumber why) 0 ≡ false)
+pub refusal-back : (why : Refusal) → (refusalOf (refusalNumber why) ≡ why) × (eqb (refusalNumber why) 0 ≡ false)
 refusal-back BadSize = (refl, refl)
 refusal-back ShortMemory = (refl, refl)
 refusal-back Unopened = (refl, refl)
