@@ -9,12 +9,14 @@ use lib.ListN.{length, take, drop, length-append}
 use Rattle.slices.specs.Bytes.{Bytes}
 use Rattle.slices.proofs.Tests.{clash}
 use Rattle.parts.specs.Parts.{escaped}
-use Rattle.string_dv_dict.specs.declared.Form.the-variants as F
-use Rattle.string_dv_dict.specs.Packed.{packed, tagIn, textIn, accepted, unescaped}
-use Rattle.string_dv_dict.specs.Scans.{splitOf}
-use Rattle.string_dv_dict.proofs.Escapes.{read-escaped}
-use Rattle.string_dv_dict.proofs.Laws.{is-legal, pack-unpack}
-use Rattle.string_dv_dict.proofs.PackedParts.{split-parts, long-low}
+use Rattle.string_dv_dict_unpack.specs.declared.Form.the-variants as F
+use Rattle.string_dv_dict.specs.Packed.{packed}
+use Rattle.string_dv_dict_unpack.specs.Forms.{tagIn, textIn, accepted, unescaped}
+use Rattle.string_dv_dict_unpack.specs.Scans.{splitOf}
+use Rattle.string_dv_dict_unpack.proofs.Escapes.{read-escaped}
+use Rattle.string_dv_dict.proofs.Laws.{is-legal}
+use Rattle.string_dv_dict_unpack.proofs.Laws.{pack-unpack}
+use Rattle.string_dv_dict_unpack.proofs.PackedParts.{split-parts, long-low}
 use Rattle.layout.specs.declared.Sizes.{Sizes}
 use Rattle.layout.specs.Sizes.{pageBytes}
 use Rattle.model.specs.Names.{Name}

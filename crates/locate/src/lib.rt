@@ -9,7 +9,7 @@ use names::PLAIN;
 use names::TAGGED;
 use parts::Mode;
 use ranked_pair_dictionary::FrequentId;
-use string_dv_dict::Form;
+use string_dv_dict_unpack::Form;
 ghost use mathlib.Core.Path.{_≡_};
 ghost use mathlib.Core.Bool.{true};
 ghost use mathlib.Core.List.{_++_};
@@ -83,7 +83,7 @@ fn locate_tagged(pages: &[u8], at: usize, len: usize) -> Located
     requires { ⌜ at + len ≤ length (now pages) ⌝ }
     ensures { λ r. ⌜ LocatesAlone (now (pages .entry)) 2 at len r ⌝ }
 {
-    match string_dv_dict::split(bytes_dictionary::id_to_bytes(pages, at, len)) {
+    match string_dv_dict_unpack::split(bytes_dictionary::id_to_bytes(pages, at, len)) {
         Form::Short(n) => {
             let before = n + 1;
             let text = len - before;
@@ -175,7 +175,7 @@ fn write_piece(piece: &[u8], escaped: bool, buffer: &mut [u8], at: usize)
     ensures { λ _. ⌜ now (buffer .exit) ≡ sets (now (buffer .entry)) at (unescapedIf escaped (now (piece .entry))) ⌝ }
 {
     if escaped {
-        string_dv_dict::write_unescaped(piece, buffer, at);
+        string_dv_dict_unpack::write_unescaped(piece, buffer, at);
     } else {
         parts::write(Mode::Raw, piece, &mut buffer[at..]);
     }

@@ -12,8 +12,8 @@ use Rattle.ranked_pair_dictionary.specs.declared.FrequentId.{FrequentId}
 use Rattle.ranked_pair_dictionary.specs.declared.FrequentId.the-variants as F
 use Rattle.ranked_pair_iri_dv_dict.specs.Split.{headFrom, headOf, lengthOf}
 use Rattle.ranked_pair_iri_dv_dict.proofs.Laws.{head-length}
-use Rattle.string_dv_dict.specs.declared.Unpacked.{Unpacked}
-use Rattle.string_dv_dict.specs.declared.Unpacked.the-variants as U
+use Rattle.string_dv_dict_unpack.specs.declared.Unpacked.{Unpacked}
+use Rattle.string_dv_dict_unpack.specs.declared.Unpacked.the-variants as U
 use Rattle.model.specs.Answers.{OpenAnswer, AddAnswer, FindAnswer, ReadAnswer, CountAnswer}
 use Rattle.namedict.specs.Numbers.{yesNo, writtenNumbers, valueNumbers, unpackedNumbers, openNumber, addNumbers, findNumbers, nameNumbers, countNumbers}
 use Rattle.namedict.specs.Answers.{refusalOf, yesOf, writtenOf, valueOf, unpackedOf, openOf, addOf, findOf, readOf, countOf}

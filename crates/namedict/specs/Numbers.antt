@@ -7,8 +7,8 @@ use Rattle.refusals.specs.declared.Written.{Written}
 use Rattle.refusals.specs.declared.Written.the-variants as W
 use Rattle.ranked_pair_dictionary.specs.declared.FrequentId.{FrequentId}
 use Rattle.ranked_pair_dictionary.specs.declared.FrequentId.the-variants as F
-use Rattle.string_dv_dict.specs.declared.Unpacked.{Unpacked}
-use Rattle.string_dv_dict.specs.declared.Unpacked.the-variants as U
+use Rattle.string_dv_dict_unpack.specs.declared.Unpacked.{Unpacked}
+use Rattle.string_dv_dict_unpack.specs.declared.Unpacked.the-variants as U
 use Rattle.model.specs.Answers.{OpenAnswer, AddAnswer, FindAnswer, ReadAnswer, CountAnswer}
 use Rattle.namedict.specs.declared.NamedictNumbered.{NamedictNumbered}
 use Rattle.namedict.specs.declared.NamedictName.{NamedictName}

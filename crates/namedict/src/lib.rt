@@ -9,13 +9,14 @@ use ranked_pair_dictionary::FrequentId;
 use ranked_pair_iri_dv_dict::Head;
 use refusals::Refusal;
 use refusals::Written;
-use string_dv_dict::Unpacked;
+use string_dv_dict_unpack::Unpacked;
 ghost use mathlib.Core.Path.{_≡_};
 ghost use lib.ListN.{length};
 ghost use Rattle.utf8.specs.Text.{isText};
 ghost use Rattle.ranked_pair_iri_dv_dict.specs.Split.{headOf, lengthOf};
 ghost use Rattle.ranked_pair_dictionary.specs.FrequentId.{writeFidAnswer, writeFidBuffer, readFidAnswer};
-ghost use Rattle.string_dv_dict.specs.Answers.{packAnswer, packBuffer, unpackAnswer, unpackBuffer};
+ghost use Rattle.string_dv_dict.specs.Answers.{packAnswer, packBuffer};
+ghost use Rattle.string_dv_dict_unpack.specs.Answers.{unpackAnswer, unpackBuffer};
 ghost use Rattle.model.specs.Names.{entered};
 ghost use Rattle.dictionary.specs.Answers.{addedBy, foundBy, toldBy, countedBy};
 ghost use Rattle.namedict.specs.Numbers.{yesNo, writtenNumbers, valueNumbers, unpackedNumbers, refusedNumbers, addNumbers, findNumbers, nameNumbers, countNumbers};
@@ -247,7 +248,7 @@ pub extern "C" fn namedict_unpack(packed: &[u8], buffer: &mut [u8]) -> NamedictU
     ensures { λ r. ⌜ (r ≡ unpackedNumbers (unpackAnswer (now (packed .entry)) (length (now (buffer .entry))))) × (now (buffer .exit) ≡ unpackBuffer (now (packed .entry)) (now (buffer .entry))) ⌝ }
     ensures kept { λ _. ⌜ now (packed .exit) ≡ now (packed .entry) ⌝ }
 {
-    match string_dv_dict::one_string_to_two(packed, buffer) {
+    match string_dv_dict_unpack::one_string_to_two(packed, buffer) {
         Unpacked::Lengths { text, tag } => NamedictUnpacked {
             refusal: 0,
             text_len: text as u64,

@@ -1,31 +1,25 @@
--- Packing and unpacking undo one another, for texts and tags of every length. Assumes nothing.
-use Prim.Native.Nat.{ℕ, _+_, _*_, _<_, _≤_}
-use mathlib.Core.Path.{_≡_, refl, sym, ap, _∙_}
+-- Which texts and tags are legal, how long their form is, and what packing wrote. Assumes nothing.
+use Prim.Native.Nat.{ℕ, _+_, _*_, _≤_}
+use mathlib.Core.Path.{_≡_, refl}
 use mathlib.Core.Logic.{_≢_, inl, inr}
 use mathlib.Core.Bool.{true, false, _&&_, not}
-use mathlib.Core.List.{[], _∷_, _++_, append-assoc}
+use mathlib.Core.List.{[], _∷_}
 use mathlib.Core.Option.{Option, none, some}
 use native.Mathlib.Omega.{arith}
-use borrow.Author.Tests.{ne-eqb, leb-true, leb-false, le-leb, lt-leb, ltb-false, le-ltb, not-false}
-use lib.Dec.{eqb, leb, ltb}
-use lib.ListN.{length, take, drop, length-take, length-append, take-append-drop}
-use lib.Seq.{take-append-seam, drop-append-seam, take-at, drop-at}
+use borrow.Author.Tests.{ltb-false, le-ltb, not-false}
+use lib.Dec.{leb, ltb}
+use lib.ListN.{length, length-append}
 use Rattle.slices.specs.Bytes.{Bytes, isEmpty}
-use Rattle.slices.proofs.Tests.{Split, split, and-left, and-right, passed, clash}
-use Rattle.slices.proofs.Bytes.{bytes-true, bytes-same, not-empty}
+use Rattle.slices.proofs.Tests.{Split, split, and-left, and-right, passed}
 use Rattle.layout.specs.Sizes.{nameLimit, packedLimit, packed-from-name}
 use Rattle.utf8.specs.Text.{isText}
-use Rattle.parts.specs.Parts.{escaped}
 use Rattle.parts.proofs.Laws.{length-escaped}
 use Rattle.refusals.specs.declared.Refusal.{Refusal}
-use Rattle.refusals.specs.declared.Refusal.the-variants.{TooLong, NotText, NoTag, ShortBuffer, CutForm}
+use Rattle.refusals.specs.declared.Refusal.the-variants.{TooLong, NotText, NoTag, ShortBuffer}
 use Rattle.refusals.specs.declared.Written.the-variants as W
 use Rattle.refusals.specs.Written.{writtenBy}
-use Rattle.string_dv_dict.specs.declared.Unpacked.the-variants.{Lengths}
-use Rattle.string_dv_dict.specs.Packed.{packed, pairRefusal, LegalTagged, before, behind, unescaped, tagIn, textIn, isLegal, accepted}
-use Rattle.string_dv_dict.specs.Answers.{withRoom, packAnswer, packBuffer, unpackedBy, unpackAnswer, unpackBuffer}
-use Rattle.string_dv_dict.proofs.Escapes.{read-before, read-escaped, before-split}
-use Rattle.string_dv_dict.proofs.Answers.{pack-done, unpack-done}
+use Rattle.string_dv_dict.specs.Packed.{packed, pairRefusal, LegalTagged}
+use Rattle.string_dv_dict.specs.Answers.{withRoom, packAnswer}
 
 -- ---- a legal text and tag
 
@@ -51,40 +45,7 @@ pub is-legal : (text tag : Bytes) → LegalTagged text tag → pairRefusal text 
 unfolding pairRefusal
 is-legal text tag h = rw (le-ltb _ _ (h .size), h .text-is, h .tag-is, h .tagged)
 
--- ---- unpacking what was packed
-
-pub parts-back : (text tag : Bytes) → isEmpty tag ≡ false → (textIn (packed text tag) ≡ text) × (tagIn (packed text tag) ≡ tag)
-unfolding packed textIn tagIn
-parts-back text tag h = go (split (leb (length tag) 127))
-  where
-    go : Split (leb (length tag) 127) → (textIn (packed text tag) ≡ text) × (tagIn (packed text tag) ≡ tag)
-    go (inl p) =
-        let z : eqb (length tag) 0 ≡ false = ne-eqb (length tag) 0 (omega (arith, not-empty tag h)) in
-        rw (p, z) (drop-append-seam tag text, take-append-seam tag text)
-    go (inr p) =
-        let b = read-before tag text in
-        rw p (b .1, ap (λ (s : Bytes). unescaped false s) (b .0) ∙ read-escaped tag)
-
--- The form of a legal text and tag is accepted, and gives them back.
-pub pack-unpack : (text tag : Bytes) → pairRefusal text tag ≡ none
-    → (accepted (packed text tag) ≡ true) × (textIn (packed text tag) ≡ text) × (tagIn (packed text tag) ≡ tag)
-unfolding accepted
-pack-unpack text tag e =
-    let b = parts-back text tag (legal-tagged text tag e .tagged) in
-    (rw (b .0, b .1, e, bytes-same (packed text tag)), b .0, b .1)
-
-is-none : (o : Option Refusal) → isLegal o ≡ true → o ≡ none
-is-none none e = refl
-is-none (some why) e = clash e refl
-
--- An accepted form is that of the legal text and tag which it gives.
-pub unpack-pack : (form : Bytes) → accepted form ≡ true
-    → (pairRefusal (textIn form) (tagIn form) ≡ none) × (packed (textIn form) (tagIn form) ≡ form)
-unfolding accepted
-unpack-pack form e = (
-  is-none _ (and-left (isLegal (pairRefusal (textIn form) (tagIn form))) _ e),
-  bytes-true _ _ (and-right (isLegal (pairRefusal (textIn form) (tagIn form))) _ e),
-)
+-- ---- the length of a form
 
 -- Escaping doubles a tag at the most, and two bytes are added.
 pub packed-at-most : (text tag : Bytes) → length (packed text tag) ≤ 2 + 2 * (length text + length tag)
@@ -99,132 +60,7 @@ packed-at-most text tag = go (split (leb (length tag) 127))
 pub length-packed : (text tag : Bytes) → LegalTagged text tag → length (packed text tag) ≤ packedLimit
 length-packed text tag h = rw packed-from-name (omega (arith, h .size, packed-at-most text tag))
 
--- ---- what an accepted form looks like
-
-pub short-form : (n : ℕ) (s : Bytes) → n ≢ 0 → (textIn (n ∷ s) ≡ drop n s) × (tagIn (n ∷ s) ≡ take n s)
-unfolding textIn tagIn
-short-form n s z = rw (ne-eqb n 0 z) (refl, refl)
-
--- One with a short tag.
-pub record Short (n : ℕ) (s : Bytes) : Type 0 where
-  pub low : n ≤ 127
-  pub within : n ≤ length s
-  pub pair : pairRefusal (drop n s) (take n s) ≡ none
-
-pub accepted-short : (n : ℕ) (s : Bytes) → n ≢ 0 → accepted (n ∷ s) ≡ true → Short n s
-unfolding packed
-accepted-short n s z e =
-    let p = short-form n s z in
-    let u = unpack-pack (n ∷ s) e in
-    let f : pairRefusal (drop n s) (take n s) ≡ none = rw (p .0, p .1) at (u .0) in
-    let g : packed (drop n s) (take n s) ≡ n ∷ s = rw (p .0, p .1) at (u .1) in
-    go f g (split (leb (length (take n s)) 127))
-  where
-    go : pairRefusal (drop n s) (take n s) ≡ none → packed (drop n s) (take n s) ≡ n ∷ s → Split (leb (length (take n s)) 127) → Short n s
-    go f g (inl q) =
-        let x : length (take n s) ∷ take n s ++ drop n s ≡ n ∷ s = rw q at g in
-        let y : length (take n s) ≡ n = cc in
-        record {
-          low = omega (arith, leb-true);
-          within = omega (arith, length-take n s);
-          pair = f;
-        }
-    go f g (inr q) =
-        let x : 0 ∷ escaped (take n s) ++ 62 ∷ drop n s ≡ n ∷ s = rw q at g in
-        let y : 0 ≡ n = cc in absurd (z (sym y))
-
-pub short-accepted : (n : ℕ) (s : Bytes) → n ≢ 0 → Short n s → accepted (n ∷ s) ≡ true
-unfolding accepted packed
-short-accepted n s z h =
-    let p = short-form n s z in
-    let l : length (take n s) ≡ n = simp length-take (omega (arith, h .within)) in
-    rw (p .0, p .1, h .pair, l, le-leb n 127 (h .low), take-append-drop n s) (bytes-same (n ∷ s))
-
--- One with a long tag.
-pub record Long (s : Bytes) : Type 0 where
-  pub ended : length (before s) < length s
-  pub form : escaped (unescaped false (before s)) ≡ before s
-  pub high : 127 < length (unescaped false (before s))
-  pub pair : pairRefusal (behind s) (unescaped false (before s)) ≡ none
-
-pub accepted-long : (s : Bytes) → accepted (0 ∷ s) ≡ true → Long s
-unfolding packed textIn tagIn
-accepted-long s e = go (unpack-pack (0 ∷ s) e) (split (leb (length (unescaped false (before s))) 127))
-  where
-    go : (pairRefusal (behind s) (unescaped false (before s)) ≡ none) × (packed (behind s) (unescaped false (before s)) ≡ 0 ∷ s)
-        → Split (leb (length (unescaped false (before s))) 127)
-        → Long s
-    go u (inl q) =
-        let tag = unescaped false (before s) in
-        let x : length tag ∷ tag ++ behind s ≡ 0 ∷ s = rw q at (u .1) in
-        let y : length tag ≡ 0 = cc in
-        absurd (omega (arith, not-empty tag (legal-tagged (behind s) tag (u .0) .tagged)))
-    go u (inr q) =
-        let tag = unescaped false (before s) in
-        let x : 0 ∷ escaped tag ++ 62 ∷ behind s ≡ 0 ∷ s = rw q at (u .1) in
-        let y : escaped tag ++ 62 ∷ behind s ≡ s = cc in
-        let b : escaped tag ≡ before s = sym (read-before tag (behind s) .0) ∙ ap before y in
-        let n : length (escaped tag ++ 62 ∷ behind s) ≡ length s = ap length y in
-        record {
-          ended = omega (arith, ap length b, simp length-append at n);
-          form = b;
-          high = leb-false _ _ q;
-          pair = u .0;
-        }
-
-pub long-accepted : (s : Bytes) → Long s → accepted (0 ∷ s) ≡ true
-unfolding accepted packed textIn tagIn
-long-accepted s h =
-    let b = before-split s (h .ended) in
-    rw (h .pair, lt-leb _ 127 (h .high), h .form, ← b .0) (bytes-same (0 ∷ s))
-
--- ---- the entries, one after the other
-
--- A packed form is unpacked into its text and tag, where the buffer has room for both.
-pub packed-unpacks : (text tag buffer : Bytes) → pairRefusal text tag ≡ none → length text + length tag ≤ length buffer
-    → (unpackAnswer (packed text tag) (length buffer) ≡ Lengths (length text) (length tag))
-    × (unpackBuffer (packed text tag) buffer ≡ text ++ tag ++ drop (length text + length tag) buffer)
-packed-unpacks text tag buffer e h =
-    let p = pack-unpack text tag e in
-    let r : length (textIn (packed text tag)) + length (tagIn (packed text tag)) ≤ length buffer = rw (p .1, p .2) h in
-    let u = unpack-done (packed text tag) buffer (length-packed text tag (legal-tagged text tag e)) (p .0) r in
-    let a = rw (p .1, p .2) at (u .0) in
-    let b = rw (p .1, p .2) at (u .1) in
-    (a, b ∙ ap (λ (n : ℕ). text ++ tag ++ drop n buffer) (length-append text tag))
-
--- What both lengths say of a form.
-pub record Unpacks (form : Bytes) (room m n : ℕ) : Type 0 where
-  pub small : length form ≤ packedLimit
-  pub taken : accepted form ≡ true
-  pub fitting : length (textIn form) + length (tagIn form) ≤ room
-  pub text-length : length (textIn form) ≡ m
-  pub tag-length : length (tagIn form) ≡ n
-
-both-lengths : (text tag : Bytes) (o : Option Refusal) (m n : ℕ) → unpackedBy text tag o ≡ Lengths m n → (o ≡ none) × (length text ≡ m) × (length tag ≡ n)
-both-lengths text tag none m n e = (refl, cc, cc)
-both-lengths text tag (some why) m n e = let z : _≡_ {A = ℕ} 0 1 = cc in absurd (omega arith)
-
-pub unpacks : (form : Bytes) (room m n : ℕ) → unpackAnswer form room ≡ Lengths m n → Unpacks form room m n
-unfolding unpackAnswer
-unpacks form room m n e =
-    let b = both-lengths (textIn form) (tagIn form) _ m n e in
-    let p = passed (ltb packedLimit (length form)) TooLong _ (b .0) in
-    let q = passed (not (accepted form)) CutForm _ (p .1) in
-    let r = passed (ltb room (length (textIn form) + length (tagIn form))) ShortBuffer _ (q .1) in
-    record {
-      small = ltb-false _ _ (p .0);
-      taken = not-false _ (q .0);
-      fitting = ltb-false _ _ (r .0);
-      text-length = b .1;
-      tag-length = b .2;
-    }
-
--- A form that is unpacked is what packing makes of its text and tag, which are a tagged string.
-pub unpacked-packs : (form : Bytes) (room m n : ℕ) → unpackAnswer form room ≡ Lengths m n
-    → (pairRefusal (textIn form) (tagIn form) ≡ none) × (form ≡ packed (textIn form) (tagIn form))
-unpacked-packs form room m n e = let p = unpack-pack form (unpacks form room m n e .taken) in (p .0, sym (p .1))
-
--- ---- the same, said of the buffers alone
+-- ---- what a length answered says
 
 length-told : (form : Bytes) (o : Option Refusal) (k : ℕ) → writtenBy form o ≡ W.Length k → (o ≡ none) × (length form ≡ k)
 length-told form none k e = (refl, cc)
@@ -234,40 +70,10 @@ with-room : (form : Bytes) (room : ℕ) (o : Option Refusal) → withRoom form r
 with-room form room none e = (refl, ltb-false _ _ (passed (ltb room (length form)) ShortBuffer none e .0))
 with-room form room (some why) e = let z : _≡_ {A = ℕ} 0 1 = cc in absurd (omega arith)
 
-wrote : (text tag : Bytes) (room k : ℕ) → packAnswer text tag room ≡ W.Length k
+pub wrote : (text tag : Bytes) (room k : ℕ) → packAnswer text tag room ≡ W.Length k
     → (pairRefusal text tag ≡ none) × (length (packed text tag) ≤ room) × (length (packed text tag) ≡ k)
 unfolding packAnswer
 wrote text tag room k e =
     let p = length-told (packed text tag) _ k e in
     let q = with-room (packed text tag) room _ (p .0) in
     (q .0, q .1, p .1)
-
--- The k bytes that packing wrote are unpacked into the text and the tag.
-pub pack-then-unpack : (text tag first second : Bytes) (k : ℕ) → packAnswer text tag (length first) ≡ W.Length k → length text + length tag ≤ length second →
-    let form = take k (packBuffer text tag first) in
-    (unpackAnswer form (length second) ≡ Lengths (length text) (length tag))
-    × (unpackBuffer form second ≡ text ++ tag ++ drop (length text + length tag) second)
-pack-then-unpack text tag first second k e h =
-    let w = wrote text tag (length first) k e in
-    let f : take k (packBuffer text tag first) ≡ packed text tag =
-    ap (λ (x : Bytes). take k x) (pack-done text tag first (w .0) (w .1) .1) ∙ take-at (packed text tag) _ k (w .2) in
-    rw f (packed-unpacks text tag second (w .0) h)
-
--- The m bytes and the n bytes that unpacking wrote are packed into the form.
-pub unpack-then-pack : (form first second : Bytes) (m n : ℕ) → unpackAnswer form (length first) ≡ Lengths m n → length form ≤ length second →
-    let text = take m (unpackBuffer form first) in
-    let tag = take n (drop m (unpackBuffer form first)) in
-    (packAnswer text tag (length second) ≡ W.Length (length form)) × (packBuffer text tag second ≡ form ++ drop (length form) second)
-unpack-then-pack form first second m n e h =
-    let u = unpacks form (length first) m n e in
-    let p = unpack-pack form (u .taken) in
-    let b = unpack-done form first (u .small) (u .taken) (u .fitting) .1 ∙ append-assoc (textIn form) (tagIn form) _ in
-    let x : take m (unpackBuffer form first) ≡ textIn form = ap (λ (l : Bytes). take m l) b ∙ take-at (textIn form) _ m (u .text-length) in
-    let y : take n (drop m (unpackBuffer form first)) ≡ tagIn form =
-    ap (λ (l : Bytes). take n (drop m l)) b
-    ∙ ap (λ (l : Bytes). take n l) (drop-at (textIn form) _ m (u .text-length))
-    ∙ take-at (tagIn form) _ n (u .tag-length) in
-    let d = pack-done (textIn form) (tagIn form) second (p .0) (rw (p .1) h) in
-    let a = rw (p .1) at (d .0) in
-    let c = rw (p .1) at (d .1) in
-    rw (x, y) (a, c)

@@ -1,8 +1,5 @@
 -- Laws that belong to no one function.
-pub mod Escapes
-pub mod Text
 pub mod Laws
 pub mod Writes
 pub mod Answers
-pub mod PackedParts
 pub mod Keys

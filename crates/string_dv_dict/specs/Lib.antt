@@ -1,4 +1,3 @@
 -- The definitions of this crate, by subject.
 pub mod Packed
 pub mod Answers
-pub mod Scans

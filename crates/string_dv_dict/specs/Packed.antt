@@ -1,12 +1,12 @@
--- A tagged string packed into one byte string (Nemo's two_strings_to_one), and which forms are packed. Assumes nothing.
-use Prim.Native.Nat.{ℕ, _+_, _≤_}
+-- A tagged string packed into one byte string (Nemo's two_strings_to_one), and which texts and tags may be. Assumes nothing.
+use Prim.Native.Nat.{_+_, _≤_}
 use mathlib.Core.Path.{_≡_}
-use mathlib.Core.Bool.{Bool, true, false, _&&_, not, cond}
-use mathlib.Core.List.{[], _∷_, _++_}
+use mathlib.Core.Bool.{true, false, _&&_, not, cond}
+use mathlib.Core.List.{_∷_, _++_}
 use mathlib.Core.Option.{Option, none, some}
-use lib.Dec.{eqb, leb, ltb}
-use lib.ListN.{length, take, drop}
-use Rattle.slices.specs.Bytes.{Bytes, isEmpty, sameBytes}
+use lib.Dec.{leb, ltb}
+use lib.ListN.{length}
+use Rattle.slices.specs.Bytes.{Bytes, isEmpty}
 use Rattle.layout.specs.Sizes.{nameLimit}
 use Rattle.utf8.specs.Text.{isText}
 use Rattle.parts.specs.Parts.{escaped}
@@ -30,40 +30,3 @@ pub record LegalTagged (text tag : Bytes) : Type 0 where
   pub text-is : isText text ≡ true
   pub tag-is : isText tag ≡ true
   pub tagged : isEmpty tag ≡ false
-
--- ---- the only possible parts of a form
-
--- The bytes before the first '>', and those behind it.
-unfoldable pub before : Bytes → Bytes
-before [] = []
-before (c ∷ s) = cond (eqb c 62) [] (c ∷ before s)
-
-unfoldable pub behind : Bytes → Bytes
-behind [] = []
-behind (c ∷ s) = cond (eqb c 62) s (behind s)
-
--- The byte that is escaped as '\' and c.
-abbrev pub unescape : ℕ → ℕ
-unescape c = cond (eqb c 97) 62 92
-
--- '\a' becomes '>', and '\\' becomes '\'. The first argument is true behind a '\'.
-unfoldable pub unescaped : Bool → Bytes → Bytes
-unescaped b [] = []
-unescaped true (c ∷ s) = unescape c ∷ unescaped false s
-unescaped false (c ∷ s) = cond (eqb c 92) (unescaped true s) (c ∷ unescaped false s)
-
-unfoldable pub tagIn : Bytes → Bytes
-tagIn [] = []
-tagIn (n ∷ s) = cond (eqb n 0) (unescaped false (before s)) (take n s)
-
-unfoldable pub textIn : Bytes → Bytes
-textIn [] = []
-textIn (n ∷ s) = cond (eqb n 0) (behind s) (drop n s)
-
-abbrev pub isLegal : Option Refusal → Bool
-isLegal none = true
-isLegal (some why) = false
-
--- A form is accepted if its only possible parts are legal and pack to the same bytes.
-unfoldable pub accepted : Bytes → Bool
-accepted form = isLegal (pairRefusal (textIn form) (tagIn form)) && sameBytes (packed (textIn form) (tagIn form)) form

@@ -1,0 +1,4 @@
+-- The definitions of this crate, by subject.
+pub mod Forms
+pub mod Answers
+pub mod Scans
