@@ -1,7 +1,7 @@
 // Printing: numbers, parts of names, buffers, answers.
-use namedict::NamedictCounted;
-use namedict::NamedictName;
-use namedict::NamedictNumbered;
+use numbers::NamedictCounted;
+use numbers::NamedictName;
+use numbers::NamedictNumbered;
 
 // How bytes are printed: as they are between quotes, in hexadecimal, or as runs of equal bytes.
 enum How {

@@ -10,12 +10,12 @@ use Rattle.model.specs.Answers.{AddAnswer}
 use Rattle.model.specs.Calls.{Event, effect, effects, At}
 use Rattle.memory.specs.Promises.{OpenPost, AddPost, FindPost, ReadPost, CountPost}
 use Rattle.memory.specs.Lists.{Memory, Called, Brought}
-use Rattle.namedict.specs.declared.NamedictNumbered.{NamedictNumbered}
-use Rattle.namedict.specs.Numbers.{openNumber, addNumbers, findNumbers, nameNumbers, countNumbers}
-use Rattle.namedict.specs.Answers.{openOf, addOf, findOf, readOf, countOf}
+use Rattle.numbers.specs.declared.NamedictNumbered.{NamedictNumbered}
+use Rattle.numbers.specs.Numbers.{openNumber, addNumbers, findNumbers, nameNumbers, countNumbers}
+use Rattle.numbers.specs.Answers.{openOf, addOf, findOf, readOf, countOf}
 use Rattle.namedict.specs.Returned.{OpenReturned, Returned, add, find, read, count, Exported, ExportedBrings, ExportedBrought, eventOf}
 use Rattle.namedict.specs.Demand3.{effectIn, effectsIn}
-use Rattle.namedict.proofs.Tell.{refusal-back, open-back, add-back, find-back, read-back, count-back}
+use Rattle.numbers.proofs.Tell.{refusal-back, open-back, add-back, find-back, read-back, count-back}
 
 -- ---- one answer: its numbers, the answer back from them, and what is promised of it
 

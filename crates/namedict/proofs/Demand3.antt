@@ -16,11 +16,11 @@ use Rattle.model.specs.Runs.{RefusedFor}
 use Rattle.memory.specs.Lists.{Memory}
 use Rattle.memory.proofs.Brought.{brought-demand-3, brought-never-3}
 use Rattle.memory.proofs.Demand3.{all-as-left}
-use Rattle.namedict.specs.declared.NamedictNumbered.{NamedictNumbered}
-use Rattle.namedict.specs.declared.NamedictName.{NamedictName}
-use Rattle.namedict.specs.declared.NamedictCounted.{NamedictCounted}
-use Rattle.namedict.specs.Numbers.{addNumbers, findNumbers, nameNumbers, countNumbers}
-use Rattle.namedict.specs.Answers.{addOf, findOf, readOf, countOf}
+use Rattle.numbers.specs.declared.NamedictNumbered.{NamedictNumbered}
+use Rattle.numbers.specs.declared.NamedictName.{NamedictName}
+use Rattle.numbers.specs.declared.NamedictCounted.{NamedictCounted}
+use Rattle.numbers.specs.Numbers.{addNumbers, findNumbers, nameNumbers, countNumbers}
+use Rattle.numbers.specs.Answers.{addOf, findOf, readOf, countOf}
 use Rattle.namedict.specs.Returned.{OpenReturned, Returned, add, find, read, count, Exported, ExportedCalls, ExportedBrings, ExportedBrought, refusalIn, eventOf}
 use Rattle.namedict.specs.Demand3.{effectsIn, CountAfter, NameAfter, NoneAfter, Demand3InNumbers}
 use Rattle.namedict.proofs.Calls.{open-tells, call-tells, calls-tell, call-at, exact-at, effects-tell}

@@ -13,9 +13,9 @@ use Rattle.layout.specs.Sizes.{kinds}
 use Rattle.meta_dv_dict.specs.Rule.{blockRule}
 use Rattle.model.specs.Names.{Name, size}
 use Rattle.model.specs.Calls.{Effect, fresh, known, no-effect, At, nothing, Given, Issued, freshKinds, howMany}
-use Rattle.namedict.specs.declared.NamedictNumbered.{NamedictNumbered}
-use Rattle.namedict.specs.declared.NamedictName.{NamedictName}
-use Rattle.namedict.specs.declared.NamedictCounted.{NamedictCounted}
+use Rattle.numbers.specs.declared.NamedictNumbered.{NamedictNumbered}
+use Rattle.numbers.specs.declared.NamedictName.{NamedictName}
+use Rattle.numbers.specs.declared.NamedictCounted.{NamedictCounted}
 use Rattle.namedict.specs.Returned.{Returned, add, find, read, count}
 
 -- ---- what a call did to the names, by the numbers that it returned

@@ -1,5 +1,3 @@
 -- The definitions of this crate, by subject.
-pub mod Numbers
-pub mod Answers
 pub mod Returned
 pub mod Demand3

@@ -9,11 +9,11 @@ use Rattle.model.specs.Answers.{OpenAnswer, AddAnswer, FindAnswer, ReadAnswer, 
 use Rattle.model.specs.Calls.{Event}
 use Rattle.memory.specs.Promises.{OpenPost, AddPost, FindPost, ReadPost, CountPost}
 use Rattle.memory.specs.Lists.{Memory, InTurn, Bringing}
-use Rattle.namedict.specs.declared.NamedictNumbered.{NamedictNumbered}
-use Rattle.namedict.specs.declared.NamedictName.{NamedictName}
-use Rattle.namedict.specs.declared.NamedictCounted.{NamedictCounted}
-use Rattle.namedict.specs.Numbers.{openNumber, addNumbers, findNumbers, nameNumbers, countNumbers}
-use Rattle.namedict.specs.Answers.{addOf, findOf, readOf, countOf}
+use Rattle.numbers.specs.declared.NamedictNumbered.{NamedictNumbered}
+use Rattle.numbers.specs.declared.NamedictName.{NamedictName}
+use Rattle.numbers.specs.declared.NamedictCounted.{NamedictCounted}
+use Rattle.numbers.specs.Numbers.{openNumber, addNumbers, findNumbers, nameNumbers, countNumbers}
+use Rattle.numbers.specs.Answers.{addOf, findOf, readOf, countOf}
 
 -- ---- one call: there is an answer, the numbers returned are its numbers, and the entry's promise holds of it
 

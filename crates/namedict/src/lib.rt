@@ -1,15 +1,11 @@
 // The exported entries, for C and Rust: each calls the library and gives its answer's numbers. include/namedict.h declares them.
-use dictionary::CountResult;
-use dictionary::FindResult;
-use dictionary::OpenResult;
-use dictionary::ReadResult;
-use enter::AddResult;
 use meta_dv_dict::GlobalId;
-use ranked_pair_dictionary::FrequentId;
-use ranked_pair_iri_dv_dict::Head;
-use refusals::Refusal;
-use refusals::Written;
-use string_dv_dict_unpack::Unpacked;
+use numbers::NamedictCounted;
+use numbers::NamedictName;
+use numbers::NamedictNumbered;
+use numbers::NamedictUnpacked;
+use numbers::NamedictValue;
+use numbers::NamedictWritten;
 ghost use mathlib.Core.Path.{_≡_};
 ghost use lib.ListN.{length};
 ghost use Rattle.utf8.specs.Text.{isText};
@@ -18,168 +14,8 @@ ghost use Rattle.ranked_pair_dictionary.specs.FrequentId.{writeFidAnswer, write
 ghost use Rattle.string_dv_dict.specs.Answers.{packAnswer, packBuffer};
 ghost use Rattle.string_dv_dict_unpack.specs.Answers.{unpackAnswer, unpackBuffer};
 ghost use Rattle.model.specs.Names.{entered};
-ghost use Rattle.dictionary.specs.Answers.{addedBy, foundBy, toldBy, countedBy};
-ghost use Rattle.namedict.specs.Numbers.{yesNo, writtenNumbers, valueNumbers, unpackedNumbers, refusedNumbers, addNumbers, findNumbers, nameNumbers, countNumbers};
+ghost use Rattle.numbers.specs.Numbers.{yesNo, writtenNumbers, valueNumbers, unpackedNumbers};
 ghost use Rattle.namedict.specs.Returned.{OpenReturned, AddReturned, FindReturned, ReadReturned, CountReturned};
-
-// What packing and writing a frequent id return.
-#[repr(C)]
-pub struct NamedictWritten {
-    pub refusal: u64,
-    pub length: u64,
-}
-
-// What reading a frequent id returns.
-#[repr(C)]
-pub struct NamedictValue {
-    pub refusal: u64,
-    pub value: u64,
-    pub length: u64,
-}
-
-// What unpacking returns.
-#[repr(C)]
-pub struct NamedictUnpacked {
-    pub refusal: u64,
-    pub text_len: u64,
-    pub tag_len: u64,
-}
-
-fn written_numbers(answer: Written) -> NamedictWritten
-    ensures { λ r. ⌜ r ≡ writtenNumbers answer ⌝ }
-{
-    match answer {
-        Written::Length(n) => NamedictWritten {
-            refusal: 0,
-            length: n as u64,
-        },
-        Written::Refused(why) => NamedictWritten {
-            refusal: refusals::number(why),
-            length: 0,
-        },
-    }
-}
-
-// What add and find return. The word says which answer: 0 none, 1 fresh, 2 known.
-#[repr(C)]
-pub struct NamedictNumbered {
-    pub refusal: u64,
-    pub word: u64,
-    pub number: u64,
-}
-
-// What read returns. The word is 4 for a name, 0 for none.
-#[repr(C)]
-pub struct NamedictName {
-    pub refusal: u64,
-    pub word: u64,
-    pub kind: u64,
-    pub first_len: u64,
-    pub second_len: u64,
-}
-
-// What count returns.
-#[repr(C)]
-pub struct NamedictCounted {
-    pub refusal: u64,
-    pub count: u64,
-}
-
-// The values of `word`.
-const NONE: u64 = 0;
-
-const FRESH: u64 = 1;
-
-const KNOWN: u64 = 2;
-
-const NAME: u64 = 4;
-
-fn numbered(word: u64, number: u64) -> NamedictNumbered
-    ensures { λ r. ⌜ r ≡ record { refusal = 0; word = word; number = number } ⌝ }
-{
-    NamedictNumbered {
-        refusal: 0,
-        word,
-        number,
-    }
-}
-
-fn refused_numbers(why: Refusal) -> NamedictNumbered
-    ensures { λ r. ⌜ r ≡ refusedNumbers why ⌝ }
-{
-    NamedictNumbered {
-        refusal: refusals::number(why),
-        word: 0,
-        number: 0,
-    }
-}
-
-fn add_numbers(answer: AddResult) -> NamedictNumbered
-    ensures { λ r. ⌜ r ≡ addNumbers (addedBy answer) ⌝ }
-{
-    match answer {
-        AddResult::Fresh(x) => numbered(FRESH, x.0 as u64),
-        AddResult::Known(x) => numbered(KNOWN, x.0 as u64),
-        AddResult::Refused(why) => refused_numbers(why),
-    }
-}
-
-fn find_numbers(answer: FindResult) -> NamedictNumbered
-    ensures { λ r. ⌜ r ≡ findNumbers (foundBy answer) ⌝ }
-{
-    match answer {
-        FindResult::Known(x) => numbered(KNOWN, x.0 as u64),
-        FindResult::Nothing => numbered(NONE, 0),
-        FindResult::Refused(why) => refused_numbers(why),
-    }
-}
-
-fn name_numbers(answer: ReadResult) -> NamedictName
-    ensures { λ r. ⌜ r ≡ nameNumbers (toldBy answer) ⌝ }
-{
-    match answer {
-        ReadResult::Name {
-            kind,
-            first,
-            second,
-        } => NamedictName {
-            refusal: 0,
-            word: NAME,
-            kind: kind as u64,
-            first_len: first as u64,
-            second_len: second as u64,
-        },
-        ReadResult::Nothing => NamedictName {
-            refusal: 0,
-            word: NONE,
-            kind: 0,
-            first_len: 0,
-            second_len: 0,
-        },
-        ReadResult::Refused(why) => NamedictName {
-            refusal: refusals::number(why),
-            word: 0,
-            kind: 0,
-            first_len: 0,
-            second_len: 0,
-        },
-    }
-}
-
-fn count_numbers(answer: CountResult) -> NamedictCounted
-    ensures { λ r. ⌜ r ≡ countNumbers (countedBy answer) ⌝ }
-{
-    match answer {
-        CountResult::Names(n) => NamedictCounted {
-            refusal: 0,
-            count: n as u64,
-        },
-        CountResult::Refused(why) => NamedictCounted {
-            refusal: refusals::number(why),
-            count: 0,
-        },
-    }
-}
 
 // ---- the leaf rules
 
@@ -189,7 +25,7 @@ pub extern "C" fn namedict_is_text(bytes: &[u8]) -> u64
     ensures { λ r. ⌜ r ≡ yesNo (isText (now (bytes .entry))) ⌝ }
     ensures kept { λ _. ⌜ now (bytes .exit) ≡ now (bytes .entry) ⌝ }
 {
-    if utf8::is_text(bytes) { 1 } else { 0 }
+    numbers::yes_no(utf8::is_text(bytes))
 }
 
 // The length of an IRI's head, 0 where it has none.
@@ -198,11 +34,7 @@ pub extern "C" fn namedict_split_iri(iri: &[u8]) -> u64
     ensures { λ r. ⌜ r ≡ lengthOf (headOf (now (iri .entry))) ⌝ }
     ensures kept { λ _. ⌜ now (iri .exit) ≡ now (iri .entry) ⌝ }
 {
-    let head = ranked_pair_iri_dv_dict::rfind_hashslash_plus(iri);
-    let Head::Length(n) = head else {
-        return 0;
-    };
-    n as u64
+    numbers::head_number(ranked_pair_iri_dv_dict::rfind_hashslash_plus(iri))
 }
 
 // Writes a frequent id at the buffer's start.
@@ -210,7 +42,7 @@ pub extern "C" fn namedict_split_iri(iri: &[u8]) -> u64
 pub extern "C" fn namedict_write_fid(value: u64, buffer: &mut [u8]) -> NamedictWritten
     ensures { λ r. ⌜ (r ≡ writtenNumbers (writeFidAnswer value (length (now (buffer .entry))))) × (now (buffer .exit) ≡ writeFidBuffer value (now (buffer .entry))) ⌝ }
 {
-    written_numbers(ranked_pair_dictionary::write_frequent_id(value as usize, buffer))
+    numbers::written_numbers(ranked_pair_dictionary::write_frequent_id(value as usize, buffer))
 }
 
 // Reads the frequent id in front of the bytes.
@@ -219,18 +51,7 @@ pub extern "C" fn namedict_read_fid(bytes: &[u8]) -> NamedictValue
     ensures { λ r. ⌜ r ≡ valueNumbers (readFidAnswer (now (bytes .entry))) ⌝ }
     ensures kept { λ _. ⌜ now (bytes .exit) ≡ now (bytes .entry) ⌝ }
 {
-    match ranked_pair_dictionary::read_frequent_id(bytes) {
-        FrequentId::Value { value, length } => NamedictValue {
-            refusal: 0,
-            value: value as u64,
-            length: length as u64,
-        },
-        FrequentId::Refused(why) => NamedictValue {
-            refusal: refusals::number(why),
-            value: 0,
-            length: 0,
-        },
-    }
+    numbers::value_numbers(ranked_pair_dictionary::read_frequent_id(bytes))
 }
 
 // Packs a text and its tag at the buffer's start.
@@ -239,7 +60,7 @@ pub extern "C" fn namedict_pack(text: &[u8], tag: &[u8], buffer: &mut [u8]) -> N
     ensures { λ r. ⌜ (r ≡ writtenNumbers (packAnswer (now (text .entry)) (now (tag .entry)) (length (now (buffer .entry))))) × (now (buffer .exit) ≡ packBuffer (now (text .entry)) (now (tag .entry)) (now (buffer .entry))) ⌝ }
     ensures kept { λ _. ⌜ (now (text .exit) ≡ now (text .entry)) × (now (tag .exit) ≡ now (tag .entry)) ⌝ }
 {
-    written_numbers(string_dv_dict::two_strings_to_one(text, tag, buffer))
+    numbers::written_numbers(string_dv_dict::two_strings_to_one(text, tag, buffer))
 }
 
 // Unpacks a form: the text at the buffer's start, the tag behind it.
@@ -248,18 +69,7 @@ pub extern "C" fn namedict_unpack(packed: &[u8], buffer: &mut [u8]) -> NamedictU
     ensures { λ r. ⌜ (r ≡ unpackedNumbers (unpackAnswer (now (packed .entry)) (length (now (buffer .entry))))) × (now (buffer .exit) ≡ unpackBuffer (now (packed .entry)) (now (buffer .entry))) ⌝ }
     ensures kept { λ _. ⌜ now (packed .exit) ≡ now (packed .entry) ⌝ }
 {
-    match string_dv_dict_unpack::one_string_to_two(packed, buffer) {
-        Unpacked::Lengths { text, tag } => NamedictUnpacked {
-            refusal: 0,
-            text_len: text as u64,
-            tag_len: tag as u64,
-        },
-        Unpacked::Refused(why) => NamedictUnpacked {
-            refusal: refusals::number(why),
-            text_len: 0,
-            tag_len: 0,
-        },
-    }
+    numbers::unpacked_numbers(string_dv_dict_unpack::one_string_to_two(packed, buffer))
 }
 
 // ---- the dictionary
@@ -286,10 +96,7 @@ pub extern "C" fn namedict_open(
         block_width as usize,
         block_count as usize,
     );
-    match answer {
-        OpenResult::Done => 0,
-        OpenResult::Refused(why) => refusals::number(why),
-    }
+    numbers::open_number(answer)
 }
 
 // Gives a name its number: fresh, or known already.
@@ -304,7 +111,7 @@ pub extern "C" fn namedict_add<'a>(
     ensures { λ r. ⌜ AddReturned (now (pages .entry)) (now (lists .entry)) (entered kind (now (first .entry)) (now (second .entry))) r (now (pages .exit)) (now (lists .exit)) ⌝ }
     ensures kept { λ _. ⌜ (now (first .exit) ≡ now (first .entry)) × (now (second .exit) ≡ now (second .entry)) ⌝ }
 {
-    add_numbers(dictionary::add(pages, lists, kind as usize, first, second))
+    numbers::add_numbers(dictionary::add(pages, lists, kind as usize, first, second))
 }
 
 // The number that a name has.
@@ -319,7 +126,7 @@ pub extern "C" fn namedict_find<'a>(
     ensures { λ r. ⌜ FindReturned (now (pages .entry)) (now (lists .entry)) (entered kind (now (first .entry)) (now (second .entry))) r (now (pages .exit)) (now (lists .exit)) ⌝ }
     ensures kept { λ _. ⌜ (now (first .exit) ≡ now (first .entry)) × (now (second .exit) ≡ now (second .entry)) ⌝ }
 {
-    find_numbers(dictionary::find(pages, lists, kind as usize, first, second))
+    numbers::find_numbers(dictionary::find(pages, lists, kind as usize, first, second))
 }
 
 // The name that has a number: its parts at the buffer's start, one after the other.
@@ -332,7 +139,7 @@ pub extern "C" fn namedict_read(
 ) -> NamedictName
     ensures { λ r. ⌜ ReadReturned (now (pages .entry)) (now (lists .entry)) number (now (buffer .entry)) r (now (buffer .exit)) (now (pages .exit)) (now (lists .exit)) ⌝ }
 {
-    name_numbers(dictionary::read(pages, lists, GlobalId(number as usize), buffer))
+    numbers::name_numbers(dictionary::read(pages, lists, GlobalId(number as usize), buffer))
 }
 
 // How many names of a kind there are.
@@ -340,5 +147,5 @@ pub extern "C" fn namedict_read(
 pub extern "C" fn namedict_count(pages: &[u8], lists: &[u8], kind: u64) -> NamedictCounted
     ensures { λ r. ⌜ CountReturned (now (pages .entry)) (now (lists .entry)) kind r (now (pages .exit)) (now (lists .exit)) ⌝ }
 {
-    count_numbers(dictionary::count(pages, lists, kind as usize))
+    numbers::count_numbers(dictionary::count(pages, lists, kind as usize))
 }

@@ -1,7 +1,7 @@
 // Runs the calls of a list and compares the answers. A line is a call with its answer: + add, ? find, < read, # count; the kind; f fresh,
 // k known, n a name, - none; the number in four hexadecimal digits and a space; the first part, '|', the second part. A read is given the
 // number, and the name is its answer.
-use namedict::NamedictNumbered;
+use numbers::NamedictNumbered;
 ghost use Prim.Native.Nat.{_≤_};
 ghost use lib.ListN.{length};
 

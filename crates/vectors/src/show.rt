@@ -1,7 +1,7 @@
 // Printing: a label, numbers, bytes in hexadecimal.
-use namedict::NamedictUnpacked;
-use namedict::NamedictValue;
-use namedict::NamedictWritten;
+use numbers::NamedictUnpacked;
+use numbers::NamedictValue;
+use numbers::NamedictWritten;
 
 pub fn label(text: &[u8]) {
     io::write_all(1, text);

@@ -1,5 +1,6 @@
 -- The answer of the split, as a number. Assumes nothing.
-use mathlib.Core.Path.{refl, sym, _∙_}
+use mathlib.Core.Path.{refl, ap, _∙_}
+use Rattle.ranked_pair_iri_dv_dict.specs.Split.{lengthOf}
 use borrow.Author.Needs.{needs}
 use Rattle.namedict.proofs.namedict_split_iri.Statement.{statement}
 use Rattle.namedict.proofs.namedict_split_iri.Tie as tie
@@ -7,18 +8,12 @@ use Rattle.namedict.proofs.namedict_split_iri.Tie as tie
 rfind-hashslash-plus-requires : tie.Need-rfind-hashslash-plus-requires
 rfind-hashslash-plus-requires c κs = search needs
 
-enum-known-head : tie.Need-enum-known-head
-enum-known-head c = search needs
-
-enum-told : tie.Need-enum-told
-enum-told c = search needs
+head-number-requires : tie.Need-head-number-requires
+head-number-requires c κs = search needs
 
 returns : tie.Need-returns
-returns c = (rw (sym (c .before .before .rfind-hashslash-plus .ensures) ∙ c .enum-told .given .1), refl)
-
-returns-2 : tie.Need-returns-2
-returns-2 c = (rw (sym (c .before .before .before .rfind-hashslash-plus .ensures) ∙ c .before .head .given .1), refl)
+returns c = (c .head-number .ensures ∙ ap lengthOf (c .before .rfind-hashslash-plus .ensures), refl)
 
 pub namedict-split-iri-spec : {M : Type 1} → statement M
 namedict-split-iri-spec =
-    tie.close (tie.spec rfind-hashslash-plus-requires enum-known-head enum-told returns returns-2)
+    tie.close (tie.spec rfind-hashslash-plus-requires head-number-requires returns)

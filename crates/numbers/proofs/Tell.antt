@@ -15,8 +15,8 @@ use Rattle.ranked_pair_iri_dv_dict.proofs.Laws.{head-length}
 use Rattle.string_dv_dict_unpack.specs.declared.Unpacked.{Unpacked}
 use Rattle.string_dv_dict_unpack.specs.declared.Unpacked.the-variants as U
 use Rattle.model.specs.Answers.{OpenAnswer, AddAnswer, FindAnswer, ReadAnswer, CountAnswer}
-use Rattle.namedict.specs.Numbers.{yesNo, writtenNumbers, valueNumbers, unpackedNumbers, openNumber, addNumbers, findNumbers, nameNumbers, countNumbers}
-use Rattle.namedict.specs.Answers.{refusalOf, yesOf, writtenOf, valueOf, unpackedOf, openOf, addOf, findOf, readOf, countOf}
+use Rattle.numbers.specs.Numbers.{yesNo, writtenNumbers, valueNumbers, unpackedNumbers, openNumber, addNumbers, findNumbers, nameNumbers, countNumbers}
+use Rattle.numbers.specs.Answers.{refusalOf, yesOf, writtenOf, valueOf, unpackedOf, openOf, addOf, findOf, readOf, countOf}
 
 -- A refusal by its number, and no refusal has the number 0.
 pub refusal-back : (why : Refusal) → (refusalOf (refusalNumber why) ≡ why) × (eqb (refusalNumber why) 0 ≡ false)

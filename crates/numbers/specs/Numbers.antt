@@ -10,12 +10,12 @@ use Rattle.ranked_pair_dictionary.specs.declared.FrequentId.the-variants as F
 use Rattle.string_dv_dict_unpack.specs.declared.Unpacked.{Unpacked}
 use Rattle.string_dv_dict_unpack.specs.declared.Unpacked.the-variants as U
 use Rattle.model.specs.Answers.{OpenAnswer, AddAnswer, FindAnswer, ReadAnswer, CountAnswer}
-use Rattle.namedict.specs.declared.NamedictNumbered.{NamedictNumbered}
-use Rattle.namedict.specs.declared.NamedictName.{NamedictName}
-use Rattle.namedict.specs.declared.NamedictCounted.{NamedictCounted}
-use Rattle.namedict.specs.declared.NamedictWritten.{NamedictWritten}
-use Rattle.namedict.specs.declared.NamedictValue.{NamedictValue}
-use Rattle.namedict.specs.declared.NamedictUnpacked.{NamedictUnpacked}
+use Rattle.numbers.specs.declared.NamedictNumbered.{NamedictNumbered}
+use Rattle.numbers.specs.declared.NamedictName.{NamedictName}
+use Rattle.numbers.specs.declared.NamedictCounted.{NamedictCounted}
+use Rattle.numbers.specs.declared.NamedictWritten.{NamedictWritten}
+use Rattle.numbers.specs.declared.NamedictValue.{NamedictValue}
+use Rattle.numbers.specs.declared.NamedictUnpacked.{NamedictUnpacked}
 
 -- 1 yes, 0 no.
 abbrev pub yesNo : Bool → ℕ

@@ -1,8 +1,8 @@
 -- The numbers of a read's answer. Assumes nothing.
 
 use borrow.Author.Needs.{needs}
-use Rattle.namedict.proofs.name_numbers.Statement.{statement}
-use Rattle.namedict.proofs.name_numbers.Tie as tie
+use Rattle.numbers.proofs.name_numbers.Statement.{statement}
+use Rattle.numbers.proofs.name_numbers.Tie as tie
 
 enum-known-answer : tie.Need-enum-known-answer
 enum-known-answer c = search needs

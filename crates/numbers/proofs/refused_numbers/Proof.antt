@@ -1,8 +1,8 @@
 -- The numbers of a refusal. Assumes nothing.
 
 use borrow.Author.Needs.{needs}
-use Rattle.namedict.proofs.refused_numbers.Statement.{statement}
-use Rattle.namedict.proofs.refused_numbers.Tie as tie
+use Rattle.numbers.proofs.refused_numbers.Statement.{statement}
+use Rattle.numbers.proofs.refused_numbers.Tie as tie
 
 number-requires : tie.Need-number-requires
 number-requires c κs = search needs

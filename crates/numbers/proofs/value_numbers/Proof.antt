@@ -1,8 +1,7 @@
--- The numbers of a count's answer. Assumes nothing.
-
+-- The numbers of a read frequent id. Assumes nothing.
 use borrow.Author.Needs.{needs}
-use Rattle.namedict.proofs.count_numbers.Statement.{statement}
-use Rattle.namedict.proofs.count_numbers.Tie as tie
+use Rattle.numbers.proofs.value_numbers.Statement.{statement}
+use Rattle.numbers.proofs.value_numbers.Tie as tie
 
 enum-known-answer : tie.Need-enum-known-answer
 enum-known-answer c = search needs
@@ -19,6 +18,6 @@ returns c = rw (c .before .answer .given .1)
 returns-2 : tie.Need-returns-2
 returns-2 c = rw (c .before .before .answer2 .given .1, c .number .ensures)
 
-pub count-numbers-spec : {M : Type 1} → statement M
-count-numbers-spec =
+pub value-numbers-spec : {M : Type 1} → statement M
+value-numbers-spec =
     tie.close (tie.spec enum-known-answer enum-known-answer-2 number-requires returns returns-2)

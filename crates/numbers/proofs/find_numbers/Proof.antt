@@ -1,8 +1,8 @@
 -- The numbers of a find's answer. Assumes nothing.
 use mathlib.Core.Path.{_∙_}
 use borrow.Author.Needs.{needs}
-use Rattle.namedict.proofs.find_numbers.Statement.{statement}
-use Rattle.namedict.proofs.find_numbers.Tie as tie
+use Rattle.numbers.proofs.find_numbers.Statement.{statement}
+use Rattle.numbers.proofs.find_numbers.Tie as tie
 
 enum-known-answer : tie.Need-enum-known-answer
 enum-known-answer c = search needs

@@ -1,0 +1,239 @@
+// What the exported entries return: structs of numbers, and the numbers of each answer of the library. include/namedict.h declares the structs.
+use dictionary::CountResult;
+use dictionary::FindResult;
+use dictionary::OpenResult;
+use dictionary::ReadResult;
+use enter::AddResult;
+use ranked_pair_dictionary::FrequentId;
+use ranked_pair_iri_dv_dict::Head;
+use refusals::Refusal;
+use refusals::Written;
+use string_dv_dict_unpack::Unpacked;
+ghost use mathlib.Core.Path.{_≡_};
+ghost use Rattle.ranked_pair_iri_dv_dict.specs.Split.{lengthOf};
+ghost use Rattle.dictionary.specs.Answers.{openedBy, addedBy, foundBy, toldBy, countedBy};
+ghost use Rattle.numbers.specs.Numbers.{yesNo, writtenNumbers, valueNumbers, unpackedNumbers, openNumber, refusedNumbers, addNumbers, findNumbers, nameNumbers, countNumbers};
+
+// ---- the leaf rules
+
+// What packing and writing a frequent id return.
+#[repr(C)]
+pub struct NamedictWritten {
+    pub refusal: u64,
+    pub length: u64,
+}
+
+// What reading a frequent id returns.
+#[repr(C)]
+pub struct NamedictValue {
+    pub refusal: u64,
+    pub value: u64,
+    pub length: u64,
+}
+
+// What unpacking returns.
+#[repr(C)]
+pub struct NamedictUnpacked {
+    pub refusal: u64,
+    pub text_len: u64,
+    pub tag_len: u64,
+}
+
+// 1 for yes, 0 for no.
+pub fn yes_no(answer: bool) -> u64
+    ensures { λ r. ⌜ r ≡ yesNo answer ⌝ }
+{
+    if answer { 1 } else { 0 }
+}
+
+// The length of a head, 0 for none.
+pub fn head_number(answer: Head) -> u64
+    ensures { λ r. ⌜ r ≡ lengthOf answer ⌝ }
+{
+    match answer {
+        Head::Length(n) => n as u64,
+        Head::Nothing => 0,
+    }
+}
+
+pub fn written_numbers(answer: Written) -> NamedictWritten
+    ensures { λ r. ⌜ r ≡ writtenNumbers answer ⌝ }
+{
+    match answer {
+        Written::Length(n) => NamedictWritten {
+            refusal: 0,
+            length: n as u64,
+        },
+        Written::Refused(why) => NamedictWritten {
+            refusal: refusals::number(why),
+            length: 0,
+        },
+    }
+}
+
+pub fn value_numbers(answer: FrequentId) -> NamedictValue
+    ensures { λ r. ⌜ r ≡ valueNumbers answer ⌝ }
+{
+    match answer {
+        FrequentId::Value { value, length } => NamedictValue {
+            refusal: 0,
+            value: value as u64,
+            length: length as u64,
+        },
+        FrequentId::Refused(why) => NamedictValue {
+            refusal: refusals::number(why),
+            value: 0,
+            length: 0,
+        },
+    }
+}
+
+pub fn unpacked_numbers(answer: Unpacked) -> NamedictUnpacked
+    ensures { λ r. ⌜ r ≡ unpackedNumbers answer ⌝ }
+{
+    match answer {
+        Unpacked::Lengths { text, tag } => NamedictUnpacked {
+            refusal: 0,
+            text_len: text as u64,
+            tag_len: tag as u64,
+        },
+        Unpacked::Refused(why) => NamedictUnpacked {
+            refusal: refusals::number(why),
+            text_len: 0,
+            tag_len: 0,
+        },
+    }
+}
+
+// ---- the dictionary
+
+// What add and find return. The word says which answer: 0 none, 1 fresh, 2 known.
+#[repr(C)]
+pub struct NamedictNumbered {
+    pub refusal: u64,
+    pub word: u64,
+    pub number: u64,
+}
+
+// What read returns. The word is 4 for a name, 0 for none.
+#[repr(C)]
+pub struct NamedictName {
+    pub refusal: u64,
+    pub word: u64,
+    pub kind: u64,
+    pub first_len: u64,
+    pub second_len: u64,
+}
+
+// What count returns.
+#[repr(C)]
+pub struct NamedictCounted {
+    pub refusal: u64,
+    pub count: u64,
+}
+
+// The values of `word`.
+const NONE: u64 = 0;
+
+const FRESH: u64 = 1;
+
+const KNOWN: u64 = 2;
+
+const NAME: u64 = 4;
+
+// 0 for done.
+pub fn open_number(answer: OpenResult) -> u64
+    ensures { λ r. ⌜ r ≡ openNumber (openedBy answer) ⌝ }
+{
+    match answer {
+        OpenResult::Done => 0,
+        OpenResult::Refused(why) => refusals::number(why),
+    }
+}
+
+fn numbered(word: u64, number: u64) -> NamedictNumbered
+    ensures { λ r. ⌜ r ≡ record { refusal = 0; word = word; number = number } ⌝ }
+{
+    NamedictNumbered {
+        refusal: 0,
+        word,
+        number,
+    }
+}
+
+fn refused_numbers(why: Refusal) -> NamedictNumbered
+    ensures { λ r. ⌜ r ≡ refusedNumbers why ⌝ }
+{
+    NamedictNumbered {
+        refusal: refusals::number(why),
+        word: 0,
+        number: 0,
+    }
+}
+
+pub fn add_numbers(answer: AddResult) -> NamedictNumbered
+    ensures { λ r. ⌜ r ≡ addNumbers (addedBy answer) ⌝ }
+{
+    match answer {
+        AddResult::Fresh(x) => numbered(FRESH, x.0 as u64),
+        AddResult::Known(x) => numbered(KNOWN, x.0 as u64),
+        AddResult::Refused(why) => refused_numbers(why),
+    }
+}
+
+pub fn find_numbers(answer: FindResult) -> NamedictNumbered
+    ensures { λ r. ⌜ r ≡ findNumbers (foundBy answer) ⌝ }
+{
+    match answer {
+        FindResult::Known(x) => numbered(KNOWN, x.0 as u64),
+        FindResult::Nothing => numbered(NONE, 0),
+        FindResult::Refused(why) => refused_numbers(why),
+    }
+}
+
+pub fn name_numbers(answer: ReadResult) -> NamedictName
+    ensures { λ r. ⌜ r ≡ nameNumbers (toldBy answer) ⌝ }
+{
+    match answer {
+        ReadResult::Name {
+            kind,
+            first,
+            second,
+        } => NamedictName {
+            refusal: 0,
+            word: NAME,
+            kind: kind as u64,
+            first_len: first as u64,
+            second_len: second as u64,
+        },
+        ReadResult::Nothing => NamedictName {
+            refusal: 0,
+            word: NONE,
+            kind: 0,
+            first_len: 0,
+            second_len: 0,
+        },
+        ReadResult::Refused(why) => NamedictName {
+            refusal: refusals::number(why),
+            word: 0,
+            kind: 0,
+            first_len: 0,
+            second_len: 0,
+        },
+    }
+}
+
+pub fn count_numbers(answer: CountResult) -> NamedictCounted
+    ensures { λ r. ⌜ r ≡ countNumbers (countedBy answer) ⌝ }
+{
+    match answer {
+        CountResult::Names(n) => NamedictCounted {
+            refusal: 0,
+            count: n as u64,
+        },
+        CountResult::Refused(why) => NamedictCounted {
+            refusal: refusals::number(why),
+            count: 0,
+        },
+    }
+}
