@@ -7,18 +7,13 @@ use lib.ListN.{length, take, drop, length-append, length-take, length-drop}
 use lib.Seq.{sets}
 use Rattle.slices.specs.Bytes.{Bytes}
 use Rattle.slices.proofs.Sets.{sets-mid}
-use Rattle.parts.specs.declared.Mode.{Mode}
 use Rattle.parts.specs.declared.Mode.the-variants.{Raw}
 use Rattle.parts.specs.Parts.{bytesOf}
 use Rattle.parts.proofs.Laws.{sets-append, sets-front}
-use Rattle.bytes_index.specs.Search.{keyBytes}
 
 pub raw : (s : Bytes) → bytesOf Raw s ≡ s
 unfolding bytesOf
 raw s = refl
-
-pub length-key : (mode : Mode) (front rest : Bytes) → length (keyBytes mode front rest) ≡ length (bytesOf mode front) + length rest
-length-key mode front rest = length-append (bytesOf mode front) rest
 
 -- The tail of l comes back with the part at its front.
 pub put-part : (vs l : Bytes) (at : ℕ) → at + length vs ≤ length l
@@ -28,14 +23,13 @@ put-part vs l at h =
     let f : length vs ≤ length (take k (drop at l)) = simp (length-take, length-drop) (omega arith) in
     ap (λ (x : Bytes). take at l ++ (x ++ drop k (drop at l))) (sym (sets-front vs (take k (drop at l)) f)) ∙ sets-mid vs l at k (omega arith) (omega arith)
 
--- The front, and the rest behind it, at the start of the tail l.
-pub put-tail : (l l₁ : Bytes) (mode : Mode) (front rest : Bytes) (m : ℕ)
-    → l₁ ≡ bytesOf mode front ++ drop (length (bytesOf mode front)) l → m ≡ length (bytesOf mode front) → length (keyBytes mode front rest) ≤ length l
-    → take m l₁ ++ ((rest ++ drop (length rest) (take (length l₁ - m) (drop m l₁))) ++ drop (length l₁ - m) (drop m l₁)) ≡ sets l 0 (keyBytes mode front rest)
-put-tail l l₁ mode front rest m p e h =
-    let f = bytesOf mode front in
-    let n = length-key mode front rest in
+-- The front f, and the rest r behind it, at the start of the tail l.
+pub put-tail : (l l₁ f r : Bytes) (m : ℕ)
+    → l₁ ≡ f ++ drop (length f) l → m ≡ length f → length (f ++ r) ≤ length l
+    → take m l₁ ++ ((r ++ drop (length r) (take (length l₁ - m) (drop m l₁))) ++ drop (length l₁ - m) (drop m l₁)) ≡ sets l 0 (f ++ r)
+put-tail l l₁ f r m p e h =
+    let n = length-append f r in
     let k : length l₁ ≡ length l = ap length p ∙ length-append f _ ∙ simp length-drop (omega arith) in
     let q : l₁ ≡ sets l 0 f = p ∙ sym (sets-front f l (omega arith)) in
     let o : 0 + length f ≡ length f = omega arith in
-    put-part rest l₁ m (omega arith) ∙ rw (q, e) (sym (rw o at (sets-append f rest l 0)))
+    put-part r l₁ m (omega arith) ∙ rw (q, e) (sym (rw o at (sets-append f r l 0)))

@@ -38,5 +38,5 @@ uncounted s w q = go (split (leb w (s .e)))
     go (inr p) = leb-false w (s .e) p
 
 -- The words of a dictionary end inside `lists`, and their indices are small.
-pub words-in : (s : Sizes) (d : ℕ) → InRange s → d < dictionaries → (8 * (dictAt s d + 3 * s .e) ≤ listBytes s) × (dictAt s d + 3 * s .e ≤ 20000000)
+pub words-in : (s : Sizes) (d : ℕ) → InRange s → d < dictionaries → (8 * (dictAt s d + 3 * s .e) ≤ listBytes s) × (dictAt s d + 3 * s .e ≤ 1073741824)
 words-in s d r l = let w = dict-within s d l in (omega (arith, list-bytes s), omega (arith, r .n, r .e))

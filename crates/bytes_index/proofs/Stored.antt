@@ -1,9 +1,9 @@
--- An entry's word, the part of the pages that it names, and the comparison of a key with that part. Assumes nothing.
+-- A key's lengths, an entry's word, the part of the pages that it names, and the comparison of a key with that part. Assumes nothing.
 use mathlib.Core.Path.{_≡_, _∙_, sym, ap, subst}
 use mathlib.Core.Logic.{_≢_, inl, inr}
 use mathlib.Core.Bool.{true, false, _&&_}
 use mathlib.Core.List.{[], _∷_, _++_}
-use Prim.Native.Nat.{ℕ, _+_, _-_, _≤_, _<_}
+use Prim.Native.Nat.{ℕ, _+_, _-_, _^_, _≤_, _<_}
 use native.Mathlib.Omega.{arith}
 use lib.Dec.{eqb, ltb, leb}
 use lib.ListN.{length, getD, take, drop, length-append, length-take, length-drop, take-append-drop}
@@ -12,14 +12,28 @@ use borrow.Author.Tests.{ltb-true, leb-true, eqb-true, lt-ltb, le-leb, eq-eqb, n
 use Rattle.slices.specs.Bytes.{Bytes, sameBytes}
 use Rattle.slices.proofs.Bytes.{bytes-true, bytes-same}
 use Rattle.slices.proofs.Tests.{Split, split, and-left, and-right, clash}
+use Rattle.parts.specs.Parts.{bytesOf}
 use Rattle.layout.specs.declared.Sizes.{Sizes}
 use Rattle.layout.specs.Sizes.{pageSize, pageBytes}
 use Rattle.layout.specs.Fields.{pageOf, offsetOf, sizeOf}
+use Rattle.bytes_index.specs.declared.Key.{Key}
 use Rattle.bytes_index.specs.declared.Span.{Span}
 use Rattle.bytes_index.specs.declared.Span.the-variants.{At, Bad}
 use Rattle.bytes_index.specs.Entries.{addressOf, Addresses}
 use Rattle.bytes_index.specs.Field.{entryField, SpanInside, SpanOf}
-use Rattle.bytes_index.specs.Search.{frontIs, Agree}
+use Rattle.bytes_index.specs.Search.{bytesIn, IsKey, frontIs, Agree}
+
+-- ---- a key
+
+pub length-key : (key : Key) (front rest : Bytes) → length (bytesIn key front rest) ≡ length (bytesOf (key .front) front) + length (bytesOf (key .rest) rest)
+length-key key front rest = length-append (bytesOf (key .front) front) (bytesOf (key .rest) rest)
+
+-- Each of its parts fits 64 bits.
+pub key-fits : (key : Key) (front rest : Bytes) → IsKey key front rest
+    → (length (bytesOf (key .front) front) < 2 ^ 64) × (length (bytesOf (key .rest) rest) < 2 ^ 64)
+key-fits key front rest k =
+    let l = length-key key front rest in
+    (omega (arith, k .fits), omega (arith, k .fits))
 
 -- ---- an entry's word
 

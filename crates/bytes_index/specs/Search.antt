@@ -3,7 +3,7 @@ use mathlib.Core.Path.{_≡_}
 use mathlib.Core.Bool.{Bool, _&&_}
 use mathlib.Core.List.{_++_}
 use mathlib.Core.Option.{some}
-use Prim.Native.Nat.{ℕ, _+_, _-_, _*_, _<_, _≤_}
+use Prim.Native.Nat.{ℕ, _+_, _-_, _*_, _^_, _<_, _≤_}
 use lib.Dec.{eqb}
 use lib.ListN.{length, getD, take}
 use Rattle.slices.specs.Bytes.{Bytes, sameBytes}
@@ -14,12 +14,22 @@ use Rattle.parts.specs.Parts.{bytesOf}
 use Rattle.layout.specs.declared.Sizes.{Sizes}
 use Rattle.layout.specs.Fields.{entryAt, placeAt}
 use Rattle.bytes_index.specs.Entries.{Entries, Addresses, Met, FreeAt, Holds, Misses}
+use Rattle.bytes_index.specs.declared.Key.{Key}
 use Rattle.bytes_index.specs.declared.Probe.{Probe}
 use Rattle.bytes_index.specs.declared.Probe.the-variants.{At, Free, Bad}
 
--- A key: the stored bytes of a front, then a rest.
-abbrev pub keyBytes : Mode → Bytes → Bytes → Bytes
-keyBytes mode front rest = bytesOf mode front ++ rest
+-- A key: the stored bytes of a front, then those of a rest.
+abbrev pub keyBytes : Mode → Bytes → Mode → Bytes → Bytes
+keyBytes mode front mode′ rest = bytesOf mode front ++ bytesOf mode′ rest
+
+-- The same by the modes of a key.
+abbrev pub bytesIn : Key → Bytes → Bytes → Bytes
+bytesIn key front rest = keyBytes (key .front) front (key .rest) rest
+
+-- The hash is that of the key's bytes, and their number fits 64 bits.
+pub record IsKey (key : Key) (front rest : Bytes) : Type 0 where
+  pub hashed : key .h ≡ fnvOf (bytesIn key front rest)
+  pub fits : length (bytesIn key front rest) < 2 ^ 64
 
 -- A stored key is this front and n bytes more.
 unfoldable pub frontIs : Bytes → Bytes → ℕ → Bool

@@ -8,14 +8,13 @@ use parts::Mode;
 ghost use mathlib.Core.Path.{_≡_};
 ghost use Prim.Native.Nat.{_+_, _*_, _%_, _^_, _≤_, _<_};
 ghost use lib.ListN.{length};
-ghost use Rattle.fnv.specs.Fnv.{fnvOf};
 ghost use Rattle.words.specs.Words.{wordAt};
 ghost use Rattle.parts.specs.Parts.{bytesOf};
 ghost use Rattle.layout.specs.Sizes.{InRange, dictionaries, listBytes};
 ghost use Rattle.layout.specs.Fields.{entryAt, topOf};
 ghost use Rattle.layout.specs.Header.{Lent};
 ghost use Rattle.bytes_index.specs.Field.{SpanOf};
-ghost use Rattle.bytes_index.specs.Search.{keyBytes, frontIs, Agreeing, Searched};
+ghost use Rattle.bytes_index.specs.Search.{bytesIn, IsKey, frontIs, Agreeing, Searched};
 
 // A search ends at the entry of its key, or at an empty place. Bad: the memory is no dictionary's.
 pub enum Probe {
@@ -30,12 +29,23 @@ pub enum Span {
     Bad,
 }
 
-// The hash of a key.
-pub fn hash(mode: Mode, front: &[u8], rest: &[u8]) -> u32
-    ensures { λ r. ⌜ r ≡ fnvOf (keyBytes mode (now (front .entry)) (now (rest .entry))) ⌝ }
+// A key to search or to store, without its bytes: its dictionary, its hash, and the modes of its front and of its rest. The caller computes the hash, because
+// it knows which parts the key has.
+pub struct Key {
+    pub d: usize,
+    pub h: u32,
+    pub front: Mode,
+    pub rest: Mode,
+}
+
+// How many bytes of a page a key takes.
+pub fn key_length(key: Key, front: &[u8], rest: &[u8]) -> usize
+    requires { ⌜ length (bytesIn key (now front) (now rest)) < 2 ^ 64 ⌝ }
+    ensures { λ r. ⌜ r ≡ length (bytesIn key (now (front .entry)) (now (rest .entry))) ⌝ }
 {
-    let h = parts::hash_on(fnv::START, mode, front);
-    fnv::fnv_from(h, rest)
+    let mode = key.front;
+    let restmode = key.rest;
+    parts::measure(mode, front) + parts::measure(restmode, rest)
 }
 
 // The place where the search starts.
@@ -80,10 +90,9 @@ pub fn entry(lists: &[u8], s: Sizes, d: usize, i: usize) -> Span
     if size < offset + len {
         return Span::Bad;
     }
-    Span::At {
-        at: page * size + offset,
-        len,
-    }
+    let start = page * size;
+    let at = start + offset;
+    Span::At { at, len }
 }
 
 // Whether a stored key begins with the front and has `rest` bytes more. The front's stored length is `measured`.
@@ -100,6 +109,10 @@ fn front_is(stored: &[u8], mode: Mode, front: &[u8], measured: usize, rest: usiz
     // Heads and plain strings have no front.
     if measured == 0 {
         return true;
+    }
+    // Most fronts are frequent ids. With a known mode the compiler merges their comparison into the search.
+    if let Mode::Raw = mode {
+        return parts::same(Mode::Raw, front, &stored[..measured]);
     }
     parts::same(mode, front, &stored[..measured])
 }
@@ -126,28 +139,37 @@ fn agreeing(pages: &[u8], end: usize, rest: &[u8], left: usize) -> usize
     if left < 8 { left } else { 8 }
 }
 
-// Searches the index of dictionary d for a key. It goes from the key's hash h up, over at most 2e places, to the key's entry or the first empty place.
-// The caller computes the hash, because it knows which parts the key has. An entry whose hash has other top bits has another key.
-fn probe_index(
-    pages: &[u8],
-    lists: &[u8],
-    s: Sizes,
-    d: usize,
-    h: u32,
-    mode: Mode,
-    front: &[u8],
-    rest: &[u8],
-) -> Probe
-    requires { ⌜ Lent s (now pages) (now lists) dictionaries d × (h ≡ fnvOf (keyBytes mode (now front) (now rest))) × (length (bytesOf mode (now front)) < 2 ^ 64) ⌝ }
-    ensures { λ r. ⌜ Searched s d (now (pages .entry)) (now (lists .entry)) (keyBytes mode (now (front .entry)) (now (rest .entry))) r ⌝ }
+// Compares more of a rest in its mode. The rest's stored length is n. A raw rest is compared eight bytes at a time, any other one at once.
+fn agreeing_in(pages: &[u8], end: usize, mode: Mode, rest: &[u8], n: usize, left: usize) -> usize
+    requires { ⌜ (0 < left) × (left ≤ n) × (n ≡ length (bytesOf mode (now rest))) × (n ≤ end) × (end ≤ length (now pages)) ⌝ }
+    ensures { λ r. ⌜ Agreeing (now (pages .entry)) end (bytesOf mode (now (rest .entry))) left r ⌝ }
+{
+    if let Mode::Raw = mode {
+        return agreeing(pages, end, rest, left);
+    }
+    let start = end - n;
+    if !parts::same(mode, rest, &pages[start..end]) {
+        return 0;
+    }
+    left
+}
+
+// Searches the index of a key's dictionary. It goes from the key's hash up, over at most 2e places, to the key's entry or the first empty place.
+// An entry whose hash has other top bits has another key.
+fn probe_index(pages: &[u8], lists: &[u8], s: Sizes, key: Key, front: &[u8], rest: &[u8]) -> Probe
+    requires { ⌜ Lent s (now pages) (now lists) dictionaries (key .d) × IsKey key (now front) (now rest) ⌝ }
+    ensures { λ r. ⌜ Searched s (key .d) (now (pages .entry)) (now (lists .entry)) (bytesIn key (now (front .entry)) (now (rest .entry))) r ⌝ }
 {
     let e = s.e;
     let m = 2 * e;
+    let d = key.d;
+    let mode = key.front;
+    let restmode = key.rest;
     let places = 2 * (layout::dict_at(s, d) + m);
     let measured = parts::measure(mode, front);
-    let n = rest.len();
-    let top = top_bits(h);
-    let mut j = start(h, m);
+    let n = parts::measure(restmode, rest);
+    let top = top_bits(key.h);
+    let mut j = start(key.h, m);
     let mut t = 0;
     let mut w = 0;
     'probe: loop {
@@ -176,7 +198,7 @@ fn probe_index(
                     if left == 0 {
                         break 'probe;
                     }
-                    let agreed = agreeing(pages, end, rest, left);
+                    let agreed = agreeing_in(pages, end, restmode, rest, n, left);
                     if agreed == 0 {
                         break;
                     }
@@ -187,23 +209,22 @@ fn probe_index(
         j = up(j, m);
         t += 1;
     }
-    Probe::At(w - 1)
+    let i = w - 1;
+    Probe::At(i)
 }
 
-// Searches the index of dictionary d for a key.
+// Searches the index of a key's dictionary.
 // Each slice is passed on as a part of itself. So the compiler takes the slices apart, and a call passes their contents in registers.
 pub fn bytes_to_id(
     pages: &[u8],
     lists: &[u8],
     s: Sizes,
-    d: usize,
-    h: u32,
-    mode: Mode,
+    key: Key,
     front: &[u8],
     rest: &[u8],
 ) -> Probe
-    requires { ⌜ Lent s (now pages) (now lists) dictionaries d × (h ≡ fnvOf (keyBytes mode (now front) (now rest))) × (length (bytesOf mode (now front)) < 2 ^ 64) ⌝ }
-    ensures { λ r. ⌜ Searched s d (now (pages .entry)) (now (lists .entry)) (keyBytes mode (now (front .entry)) (now (rest .entry))) r ⌝ }
+    requires { ⌜ Lent s (now pages) (now lists) dictionaries (key .d) × IsKey key (now front) (now rest) ⌝ }
+    ensures { λ r. ⌜ Searched s (key .d) (now (pages .entry)) (now (lists .entry)) (bytesIn key (now (front .entry)) (now (rest .entry))) r ⌝ }
 {
-    probe_index(&pages[..], &lists[..], s, d, h, mode, &front[..], &rest[..])
+    probe_index(&pages[..], &lists[..], s, key, &front[..], &rest[..])
 }

@@ -1,6 +1,6 @@
 -- Each answer of add is as promised. Assumes nothing.
 use Prim.Native.Nat.{ℕ}
-use mathlib.Core.Path.{_≡_, refl, sym, ap, subst, _∙_}
+use mathlib.Core.Path.{_≡_, refl, ap}
 use mathlib.Core.Logic.{inl, inr}
 use mathlib.Core.Option.{none, some}
 use native.Mathlib.Omega.{arith}
@@ -13,13 +13,11 @@ use Rattle.layout.specs.declared.Header.the-variants as H
 use Rattle.layout.specs.Header.{headerOf, sizesIn}
 use Rattle.model.specs.Names.{Name}
 use Rattle.model.specs.Answers.{AddAnswer}
-use Rattle.model.specs.Steps.{shapeRefusal, textRefusal, checks}
+use Rattle.model.specs.Steps.{checks}
 use Rattle.model.proofs.Decide.{decided-illegal}
 use Rattle.memory.specs.Promises.{AddPost}
 use Rattle.memory.proofs.Beyond.{beyond-same}
-use Rattle.model.proofs.Legal.{text-decides}
-use Rattle.enter.specs.Added.{AddsName, Judged}
-use Rattle.enter.proofs.Judges.{judge}
+use Rattle.enter.specs.Added.{AddsName}
 use Rattle.dictionary.proofs.Headers.{no-state, sizes-read, not-always, one-sizes}
 
 pub add-unopened : (pages lists : Bytes) (a : Name) → headerOf (length pages) lists ≡ H.Unopened → AddPost pages lists a (AddAnswer.refused Unopened) pages lists
@@ -51,7 +49,7 @@ module _ (pages lists : Bytes) (s : Sizes) (e : headerOf (length pages) lists �
             rw (decided-illegal t st a why (rw q i)) (refl, S);
       }
 
-  pub add-legal : checks s a ≡ none → (r : AddAnswer) (pages′ lists′ : Bytes) → AddsName s (λ st b. b ≡ a) pages lists r pages′ lists′ → AddPost pages lists a r pages′ lists′
+  pub add-legal : checks s a ≡ none → (r : AddAnswer) (pages′ lists′ : Bytes) → AddsName s a pages lists r pages′ lists′ → AddPost pages lists a r pages′ lists′
   add-legal legal r pages′ lists′ h =
       record {
         unopened = λ u. absurd (not-always pages lists s e u);
@@ -63,16 +61,5 @@ module _ (pages lists : Bytes) (s : Sizes) (e : headerOf (length pages) lists �
         beyond = rw (sizes-read pages lists s e) (h .beyond);
         whole = λ t st S.
             let q : t ≡ s = one-sizes pages lists s e t st S in
-            rw q (h .whole st a (rw q at S) legal refl);
+            rw q (h .whole st (rw q at S) legal);
       }
-
-  -- Refused for its text, or added.
-  pub add-judged : shapeRefusal s a ≡ none → (r : AddAnswer) (pages′ lists′ : Bytes) → Judged (textRefusal a) s (λ st b. b ≡ a) pages lists r pages′ lists′
-      → AddPost pages lists a r pages′ lists′
-  add-judged shaped r pages′ lists′ h =
-      judge s (λ st b. b ≡ a) pages lists (textRefusal a) r pages′ lists′ (AddPost pages lists a r pages′ lists′) h
-      (λ why e p q t.
-      subst (λ (x : AddAnswer). AddPost pages lists a x pages′ lists′) (sym p)
-      (subst (λ (x : Bytes). AddPost pages lists a (AddAnswer.refused why) x lists′) (sym q)
-      (subst (AddPost pages lists a (AddAnswer.refused why) pages) (sym t) (add-illegal why (text-decides s a shaped ∙ e)))))
-      (λ e y. add-legal (text-decides s a shaped ∙ e) r pages′ lists′ y)

@@ -1,8 +1,8 @@
 -- Each answer of find is as promised. Assumes nothing.
 use Prim.Native.Nat.{ℕ, _<_}
-use mathlib.Core.Path.{_≡_, refl, sym, ap, _∙_}
+use mathlib.Core.Path.{_≡_, refl, ap, _∙_}
 use mathlib.Core.Logic.{inl, inr}
-use mathlib.Core.Option.{Option, none, some}
+use mathlib.Core.Option.{none, some}
 use native.Mathlib.Omega.{arith}
 use lib.ListN.{length}
 use Rattle.slices.specs.Bytes.{Bytes}
@@ -24,8 +24,6 @@ use Rattle.model.proofs.Names.{local-lt}
 use Rattle.memory.specs.Stands.{Stands}
 use Rattle.memory.specs.Promises.{FindBounded, FindPost}
 use Rattle.memory.proofs.Counts.{next-count}
-use Rattle.search.specs.declared.Search.the-variants.{Found, Nothing, Bad}
-use Rattle.search.specs.Found.{searchBy, FindsName}
 use Rattle.dictionary.proofs.Headers.{no-state, sizes-read, not-always, one-sizes}
 
 pub find-unopened : (pages lists : Bytes) (a : Name) → headerOf (length pages) lists ≡ H.Unopened → FindPost pages lists a (FindAnswer.refused Unopened) pages lists
@@ -71,17 +69,10 @@ module _ (pages lists : Bytes) (s : Sizes) (e : headerOf (length pages) lists �
               f st T ∙ rw (q, legal);
         }
 
-    -- The search's local number is the name's.
-    local-is : (x : LocalId) → FindsName s (λ b. b ≡ a) pages lists (Found x) → (st : State) → Stands s st pages lists → localOf a (st .part (a .kind) .names) ≡ some (x .0)
-    local-is x h st S = go (localOf a (st .part (a .kind) .names)) (h .right st a S legal refl)
-      where
-        go : (o : Option ℕ) → Found x ≡ searchBy o → o ≡ some (x .0)
-        go none q = let z : _≡_ {A = ℕ} 0 1 = cc in absurd (omega arith)
-        go (some i) q = let v : x ≡ record { 0 = i } = cc in ap (λ (y : LocalId). some (y .0)) (sym v)
-
-    module _ (x : LocalId) (h : FindsName s (λ b. b ≡ a) pages lists (Found x)) where
+    -- What the search says of each state.
+    module _ (x : LocalId) (h : (st : State) → Stands s st pages lists → localOf a (st .part (a .kind) .names) ≡ some (x .0)) where
       given : (st : State) → Stands s st pages lists → x .0 < st .blocks .next (a .kind)
-      given st S = omega (arith, local-lt a (st .part (a .kind) .names) (x .0) (local-is x h st S), next-count S (a .kind))
+      given st S = omega (arith, local-lt a (st .part (a .kind) .names) (x .0) (h st S), next-count S (a .kind))
 
       pub find-known : (y : GlobalId) → Globals s lists (a .kind) (x .0) (N.Global y) → FindPost pages lists a (FindAnswer.known (y .0)) pages lists
       unfolding numberOf
@@ -90,7 +81,7 @@ module _ (pages lists : Bytes) (s : Sizes) (e : headerOf (length pages) lists �
           (λ st S.
           let u : N.Global y ≡ N.Global (record { 0 = global (s .w) (st .blocks) (a .kind) (x .0) }) = g .right (st .blocks) (S .blocked) (given st S) in
           let v : y ≡ record { 0 = global (s .w) (st .blocks) (a .kind) (x .0) } = cc in
-          rw (local-is x h st S) (ap (λ (n : GlobalId). FindAnswer.known (n .0)) v))
+          rw (h st S) (ap (λ (n : GlobalId). FindAnswer.known (n .0)) v))
 
       pub find-bad-number : Globals s lists (a .kind) (x .0) N.Bad → FindPost pages lists a (FindAnswer.refused Unopened) pages lists
       find-bad-number g =
@@ -99,17 +90,9 @@ module _ (pages lists : Bytes) (s : Sizes) (e : headerOf (length pages) lists �
           let u : N.Bad ≡ N.Global (record { 0 = global (s .w) (st .blocks) (a .kind) (x .0) }) = g .right (st .blocks) (S .blocked) (given st S) in
           let z : _≡_ {A = ℕ} 0 1 = cc in absurd (omega arith))
 
-    pub find-none : FindsName s (λ b. b ≡ a) pages lists Nothing → FindPost pages lists a FindAnswer.absent pages lists
+    pub find-none : ((st : State) → Stands s st pages lists → localOf a (st .part (a .kind) .names) ≡ none) → FindPost pages lists a FindAnswer.absent pages lists
     unfolding numberOf
-    find-none h = find-legal FindAnswer.absent tt (λ st S. rw (go st (localOf a (st .part (a .kind) .names)) (h .right st a S legal refl)))
-      where
-        go : (st : State) (o : Option ℕ) → Nothing ≡ searchBy o → o ≡ none
-        go st none q = refl
-        go st (some i) q = let z : _≡_ {A = ℕ} 0 1 = cc in absurd (omega arith)
+    find-none h = find-legal FindAnswer.absent tt (λ st S. rw (h st S))
 
-    pub find-bad : FindsName s (λ b. b ≡ a) pages lists Bad → FindPost pages lists a (FindAnswer.refused Unopened) pages lists
-    find-bad h = find-legal (FindAnswer.refused Unopened) refl (λ st S. absurd (go (localOf a (st .part (a .kind) .names)) (h .right st a S legal refl)))
-      where
-        go : (o : Option ℕ) → Bad ≡ searchBy o → ⊥
-        go none q = let z : _≡_ {A = ℕ} 0 1 = cc in omega arith
-        go (some i) q = let z : _≡_ {A = ℕ} 0 1 = cc in omega arith
+    pub find-bad : ((st : State) → Stands s st pages lists → ⊥) → FindPost pages lists a (FindAnswer.refused Unopened) pages lists
+    find-bad h = find-legal (FindAnswer.refused Unopened) refl (λ st S. absurd (h st S))

@@ -83,7 +83,17 @@ pub fn add<'a>(
     if let Checked::Illegal(why) = names::check_shape(s, kind, first, second) {
         return AddResult::Refused(why);
     }
-    enter_pair::add_name(pages, lists, s, kind, first, second)
+    // The text is checked after the search, which does not wait for it.
+    let x = search::find_name(pages, lists, s, kind, first, second);
+    let found = x.found;
+    if let Checked::Illegal(why) = names::check_text(kind, first, second, x.ascii) {
+        return AddResult::Refused(why);
+    }
+    match found {
+        Search::Found(local) => enter::known(lists, s, kind, local),
+        Search::Missing(place) => enter::add_name(pages, lists, s, kind, first, second, x, place),
+        Search::Bad => AddResult::Refused(Refusal::Unopened),
+    }
 }
 
 // The number that a name has.
@@ -103,9 +113,9 @@ pub fn find<'a>(
         return FindResult::Refused(why);
     }
     // The text is checked after the search, which does not wait for it.
-    let x = search::find_name(pages, lists, s, kind, first, second);
-    let found = x.found;
-    if let Checked::Illegal(why) = names::check_text(kind, first, second, x.ascii) {
+    let y = search::find_name(pages, lists, s, kind, first, second);
+    let found = y.found;
+    if let Checked::Illegal(why) = names::check_text(kind, first, second, y.ascii) {
         return FindResult::Refused(why);
     }
     match found {
@@ -116,7 +126,7 @@ pub fn find<'a>(
             };
             FindResult::Known(x)
         }
-        Search::Nothing => FindResult::Nothing,
+        Search::Missing(_) => FindResult::Nothing,
         Search::Bad => FindResult::Refused(Refusal::Unopened),
     }
 }

@@ -1,5 +1,4 @@
--- Laws of an add of one entry: what its steps answer, what its plan says, and what it leaves.
-pub mod Steps
-pub mod Plans
+-- Laws that belong to no one function.
+pub mod Knows
 pub mod Adds
-pub mod Judges
+pub mod Named

@@ -1,37 +1,55 @@
--- What the steps of an add promise for the names that their arguments mean. Assumes nothing.
-use Prim.Native.Nat.{ℕ}
+-- What an add leaves: the bytes that its writes make of pages and lists, and its promise for the name. Assumes nothing.
+use Prim.Native.Nat.{ℕ, _+_, _*_, _%_, _^_}
 use mathlib.Core.Path.{_≡_}
-use mathlib.Core.Bool.{false}
-use mathlib.Core.Option.{Option, none, some}
+use mathlib.Core.Option.{none}
+use lib.ListN.{length}
 use Rattle.slices.specs.Bytes.{Bytes}
-use Rattle.refusals.specs.declared.Refusal.{Refusal}
 use Rattle.layout.specs.declared.Sizes.{Sizes}
+use Rattle.bytes_dictionary.specs.Written.{pagesAfter, listsAfter}
+use Rattle.meta_dv_dict.specs.Answers.{blockWritten}
 use Rattle.model.specs.Names.{Name}
+use Rattle.model.specs.Kinds.{row}
 use Rattle.model.specs.Answers.{AddAnswer}
 use Rattle.model.specs.State.{State}
-use Rattle.model.specs.Steps.{checks, newHead, keyOf, addAnswer, afterAdd}
+use Rattle.model.specs.Steps.{checks, addAnswer, afterAdd}
 use Rattle.memory.specs.Stands.{Stands}
-pub use Rattle.names.specs.Given.{IsPair}
 use Rattle.memory.specs.Promises.{SameBeyond, AddBounded}
+use Rattle.plan.specs.declared.Plan.{Plan}
+use Rattle.plan.specs.declared.Planned.{Planned}
+use Rattle.plan.specs.declared.Planned.the-variants.{Ready, Refused}
+use Rattle.plan.specs.Plans.{Plans}
+use Rattle.enter.specs.declared.NewName.{NewName}
 
--- `Means st a`: at the state st the arguments stand for the name a.
-pub record AddsName (s : Sizes) (Means : State → Name → Type 0) (pages lists : Bytes) (r : AddAnswer) (pages′ lists′ : Bytes) : Type 0 where
+-- ---- the writes of a plan: the head at its spot, then the key at its own. A head without a spot is not written
+
+unfoldable pub namePages : Sizes → Bytes → Plan → Bytes → Bytes → Bytes
+namePages s pages x head key = pagesAfter s (pagesAfter s pages (x .head) head) (x .spot) key
+
+unfoldable pub nameLists : Sizes → Bytes → ℕ → ℕ → ℕ → ℕ → Plan → Bytes → Bytes → Bytes
+nameLists s lists k f headPlace place x head key =
+    blockWritten s
+    (listsAfter s (listsAfter s lists (row k .headsAt) f headPlace (x .head) (x .stamp) head) (row k .mainAt) (x .n) place (x .spot) (x .stamp) key)
+    k
+    (x .n)
+    (x .g)
+
+-- A plan carried out: a refusal leaves all as found, else the number is fresh and the plan is written.
+abbrev pub CarriedOut : Sizes → Bytes → Bytes → NewName → Bytes → Bytes → Planned → AddAnswer → Bytes → Bytes → Type 0
+CarriedOut s pages lists w head key (Refused why) r pages′ lists′ = (r ≡ AddAnswer.refused why) × (pages′ ≡ pages) × (lists′ ≡ lists)
+CarriedOut s pages lists w head key (Ready x) r pages′ lists′ =
+    (r ≡ AddAnswer.fresh (x .g * 2 ^ s .w + x .n % 2 ^ s .w))
+    × (pages′ ≡ namePages s pages x head key)
+    × (lists′ ≡ nameLists s lists (w .k) (w .f) (w .headplace) (w .place) x head key)
+
+pub record EntersName (s : Sizes) (pages lists : Bytes) (w : NewName) (head key : Bytes) (r : AddAnswer) (pages′ lists′ : Bytes) : Type 0 where
+  pub plan : Planned
+  pub planned : Plans s lists (w .k) (w .newhead) (w .f) (length head) (length key) plan
+  pub carried : CarriedOut s pages lists w head key plan r pages′ lists′
+
+-- ---- the promise for a name
+
+pub record AddsName (s : Sizes) (a : Name) (pages lists : Bytes) (r : AddAnswer) (pages′ lists′ : Bytes) : Type 0 where
   pub bounded : AddBounded s r
   pub kept : ((n : ℕ) → ¬ (r ≡ AddAnswer.fresh n)) → (pages′ ≡ pages) × (lists′ ≡ lists)
   pub beyond : SameBeyond s pages lists pages′ lists′
-  pub whole : (st : State) (a : Name) → Stands s st pages lists → checks s a ≡ none → Means st a → (r ≡ addAnswer s st a) × Stands s (afterAdd s st a) pages′ lists′
-
--- If there is a refusal, the add is refused and nothing is written. Else the name is added.
-unfoldable pub Judged : Option Refusal → Sizes → (State → Name → Type 0) → Bytes → Bytes → AddAnswer → Bytes → Bytes → Type 0
-Judged (some why) s Means pages lists r pages′ lists′ = (r ≡ AddAnswer.refused why) × (pages′ ≡ pages) × (lists′ ≡ lists)
-Judged none s Means pages lists r pages′ lists′ = AddsName s Means pages lists r pages′ lists′
-
--- A name of the kind k with this key. Its head is stored, or it has none.
-pub record HasKey (k : ℕ) (key : Bytes) (st : State) (a : Name) : Type 0 where
-  pub kinded : a .kind ≡ k
-  pub old : newHead a (st .part k) ≡ false
-  pub keyed : keyOf (st .part k .heads) a ≡ key
-
--- A name of the kind k with this head and this rest, whatever the state.
-abbrev pub HasPair : ℕ → Bytes → Bytes → State → Name → Type 0
-HasPair k head rest st a = IsPair k head rest a
+  pub whole : (st : State) → Stands s st pages lists → checks s a ≡ none → (r ≡ addAnswer s st a) × Stands s (afterAdd s st a) pages′ lists′

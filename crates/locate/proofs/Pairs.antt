@@ -1,8 +1,8 @@
 -- An entry that is a head's frequent id and the rest: what its reading says of the name. Assumes nothing.
 use Prim.Native.Nat.{ℕ, _+_, _-_, _/_, _<_, _≤_}
 use mathlib.Core.Path.{_≡_, refl, sym, ap, subst, _∙_}
-use mathlib.Core.Logic.{_⊎_, _≢_, inl, inr}
-use mathlib.Core.Bool.{true, false, _&&_, cond}
+use mathlib.Core.Logic.{_⊎_, inl, inr}
+use mathlib.Core.Bool.{true, false, _&&_, cond, false≢true}
 use mathlib.Core.List.{[], _∷_, _++_, append-nil}
 use mathlib.Core.Option.{none, some}
 use native.Mathlib.Omega.{arith}
@@ -25,13 +25,14 @@ use Rattle.bytes_dictionary.specs.declared.Lookup.the-variants as K
 use Rattle.bytes_dictionary.specs.Reading.{Gives, Looked}
 use Rattle.bytes_dictionary.proofs.Lookup.{the-type}
 use Rattle.model.specs.Names.{Name}
-use Rattle.model.specs.Kinds.{row}
+use Rattle.model.specs.Kinds.{Way, splits, whole, packs, pairs, hasHeads, headBy, restBy, row}
 use Rattle.model.specs.State.{State, entryNumber}
 use Rattle.model.specs.Steps.{checks, isNone, orElse, newHead, keyOf}
+use Rattle.model.proofs.Table.{firstOnly, no-second}
 use Rattle.model.proofs.Legal.{legal}
 use Rattle.model.proofs.Keys.{entry-lt}
 use Rattle.model.proofs.Parts.{is-some}
-use Rattle.names.proofs.Rows.{paired-last}
+use Rattle.names.specs.Given.{isSplit}
 use Rattle.memory.specs.Stands.{Stands}
 use Rattle.memory.proofs.Named.{head-entry}
 use Rattle.locate.specs.declared.Located.the-variants.{At, Bad}
@@ -53,34 +54,31 @@ read-fits (x ∷ b) v n e = go (split (leb (x / 64) (length b)))
         let u = rw p at e in
         let z : _≡_ {A = ℕ} 0 1 = cc in absurd (omega arith)
 
--- How many bytes of the rest belong to the first part: all of an IRI's, and none of a typed value's.
-abbrev pub Moved : ℕ → ℕ → ℕ → Type 0
-Moved k rest m = ((k ≡ 0) × (m ≡ rest)) ⊎ ((k ≢ 0) × (m ≡ 0))
+-- How many bytes of the rest belong to the first part: all where the first part splits, and else none.
+abbrev pub Moved : Way → ℕ → ℕ → Type 0
+Moved w rest m = ((isSplit w ≡ true) × (m ≡ rest)) ⊎ ((isSplit w ≡ false) × (m ≡ 0))
 
-pub moved-le : (k rest m : ℕ) → Moved k rest m → m ≤ rest
-moved-le k rest m (inl h) = omega arith
-moved-le k rest m (inr h) = omega arith
+pub moved-le : (w : Way) (rest m : ℕ) → Moved w rest m → m ≤ rest
+moved-le w rest m (inl h) = omega arith
+moved-le w rest m (inr h) = omega arith
 
 -- Head and rest are both parts, one after the other.
-module _ (s : Sizes) (a : Name) (passes : checks s a ≡ none) (k : ℕ) (q : a .kind ≡ k) where
-  joined-iri : k ≡ 0 → (row k .head a ++ row k .rest a ≡ a .first ++ a .second) × (row k .head a ++ row k .rest a ≡ a .first) × (a .second ≡ [])
-  joined-iri z =
-      let t : a .second ≡ [] = legal s a passes .shape .second (rw (q, z)) in
-      let f : row k .head a ++ row k .rest a ≡ a .first = rw z (take-append-drop (headLength (a .first)) (a .first)) in
-      (f ∙ rw t (sym (append-nil (a .first))), f, t)
-
-  pub joined : k < kinds → row k .paired ≡ true → (m : ℕ) → Moved k (length (row k .rest a)) m
-      → (row k .head a ++ row k .rest a ≡ a .first ++ a .second)
-      × (length (row k .head a) + m ≡ length (a .first))
-      × (length (row k .rest a) - m ≡ length (a .second))
-  joined known pair m (inl h) =
-      let p = joined-iri (h .0) in
-      let l : length (row k .head a) + length (row k .rest a) ≡ length (a .first) = simp length-append at (ap length (p .1)) in
-      let o : length (a .second) ≡ 0 = ap length (p .2) in
-      (p .0, omega (arith, h .1), omega (arith, h .1))
-  joined known pair m (inr h) =
-      let z : k ≡ 3 = paired-last k known pair (h .0) in
-      rw (z, h .1) (refl, omega arith, omega arith)
+module _ (s : Sizes) (a : Name) (passes : checks s a ≡ none) where
+  pub joined : (w : Way) → row (a .kind) .way ≡ w → hasHeads w ≡ true → (m : ℕ) → Moved w (length (restBy w a)) m
+      → (headBy w a ++ restBy w a ≡ a .first ++ a .second)
+      × (length (headBy w a) + m ≡ length (a .first))
+      × (length (restBy w a) - m ≡ length (a .second))
+  joined splits v pair m (inl h) =
+      let t : a .second ≡ [] = legal s a passes .shape .second (no-second (a .kind) (ap firstOnly v)) in
+      let f : headBy splits a ++ restBy splits a ≡ a .first = take-append-drop (headLength (a .first)) (a .first) in
+      let l : length (headBy splits a) + length (restBy splits a) ≡ length (a .first) = simp length-append at (ap length f) in
+      let o : length (a .second) ≡ 0 = ap length t in
+      (f ∙ rw t (sym (append-nil (a .first))), omega (arith, h .1), omega (arith, h .1))
+  joined splits v pair m (inr h) = absurd (false≢true (sym (h .0)))
+  joined whole v pair m h = absurd (false≢true pair)
+  joined packs v pair m h = absurd (false≢true pair)
+  joined pairs v pair m (inl h) = absurd (false≢true (h .0))
+  joined pairs v pair m (inr h) = rw (h .1) (refl, omega arith, omega arith)
 
 -- A lookup that names no part gives no key.
 no-part : (pages key : Bytes) (r : Lookup) → (tagOf the-type r ≡ 1) ⊎ (tagOf the-type r ≡ 2) → Gives pages (some key) r → ⊥
@@ -144,7 +142,7 @@ module _ (s : Sizes) (pages lists : Bytes) (k at len : ℕ) (known : k < kinds) 
     pub lead-within : n ≤ len
     lead-within = omega (arith, read-fits (take len (drop at pages)) v n e, length-cut pages at len (omega arith))
 
-    pub located-pair : (from size m : ℕ) → Looked s (row k .headsAt) v lists (K.At from size) → Moved k (len - n) m
+    pub located-pair : (from size m : ℕ) → Looked s (row k .headsAt) v lists (K.At from size) → Moved (row k .way) (len - n) m
         → LocatesEntry s pages lists k at len (At (record {
           kind = k;
           first = size + m;
@@ -157,7 +155,7 @@ module _ (s : Sizes) (pages lists : Bytes) (k at len : ℕ) (known : k < kinds) 
         }))
     unfolding piecesIn
     located-pair from size m look M =
-        let low : m ≤ len - n = moved-le k (len - n) m M in
+        let low : m ≤ len - n = moved-le (row k .way) (len - n) m M in
         let inner : n ≤ len = lead-within in
         let lf : length (take size (drop from pages)) ≡ size = length-cut pages from size (omega (arith, look .inside)) in
         let lb : length (take (len - n) (drop (at + n) pages)) ≡ len - n = length-cut pages (at + n) (len - n) (omega arith) in
@@ -177,7 +175,7 @@ module _ (s : Sizes) (pages lists : Bytes) (k at len : ℕ) (known : k < kinds) 
               let back : take (len - n) (drop (at + n) pages) ≡ row k .rest a =
               cut-behind pages at len (omega arith) n inner ∙ ap (drop n) (B .bytes) ∙ drop-at (fid (B .f)) (row k .rest a) n w in
               let r : len - n ≡ length (row k .rest a) = sym lb ∙ ap length back in
-              let j = joined s a p k q known pair m (rw r at M) in
+              let j = joined s a p (row k .way) (ap (λ (j : ℕ). row j .way) q) pair m (rw r at M) in
               record {
                 kind = sym q;
                 first = ap (λ (t : ℕ). t + m) (sym lf ∙ ap length front) ∙ j .1;

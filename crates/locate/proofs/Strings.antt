@@ -1,5 +1,5 @@
--- An entry that is a plain string, or a packed text and tag. Assumes nothing.
-use Prim.Native.Nat.{ℕ, _+_, _-_, _≤_}
+-- An entry that is a first part, or a packed text and tag. Assumes nothing.
+use Prim.Native.Nat.{ℕ, _+_, _-_, _≤_, _<_}
 use mathlib.Core.Path.{_≡_, sym, ap, _∙_}
 use mathlib.Core.Bool.{true, false}
 use mathlib.Core.List.{List, []}
@@ -18,9 +18,11 @@ use Rattle.string_dv_dict.proofs.Laws.{is-legal}
 use Rattle.string_dv_dict_unpack.proofs.Laws.{pack-unpack}
 use Rattle.string_dv_dict_unpack.proofs.PackedParts.{split-parts, long-low}
 use Rattle.layout.specs.declared.Sizes.{Sizes}
-use Rattle.layout.specs.Sizes.{pageBytes}
+use Rattle.layout.specs.Sizes.{kinds, pageBytes}
 use Rattle.model.specs.Names.{Name}
+use Rattle.model.specs.Kinds.{whole, packs, row}
 use Rattle.model.specs.Steps.{checks, keyOf}
+use Rattle.model.proofs.Table.{firstOnly, packsTag, no-second, needs-tag}
 use Rattle.model.proofs.Legal.{legal, legal-pair}
 use Rattle.locate.specs.declared.Located.the-variants.{At, Bad}
 use Rattle.locate.specs.Located.{piecesIn, LocatesEntry}
@@ -29,20 +31,20 @@ use Rattle.locate.proofs.Cuts.{length-cut, cut-behind, cut-inner}
 -- ---- where the parts of a packed form lie, in any pages
 
 module _ (pages : Bytes) (at len : ℕ) (fits : at + len ≤ length pages) where
-  whole : length (take len (drop at pages)) ≡ len
-  whole = length-cut pages at len fits
+  cut-whole : length (take len (drop at pages)) ≡ len
+  cut-whole = length-cut pages at len fits
 
   pub short-within : (n : ℕ) → splitOf (take len (drop at pages)) ≡ F.Short n → n + 1 ≤ len
-  short-within n e = omega (arith, split-parts _ (F.Short n) e .within, whole)
+  short-within n e = omega (arith, split-parts _ (F.Short n) e .within, cut-whole)
 
   pub long-within : (end n : ℕ) → splitOf (take len (drop at pages)) ≡ F.Long end n → end + 2 ≤ len
-  long-within end n e = omega (arith, split-parts _ (F.Long end n) e .within, whole)
+  long-within end n e = omega (arith, split-parts _ (F.Long end n) e .within, cut-whole)
 
 -- ---- the names
 
-module _ (s : Sizes) (pages lists : Bytes) (at len : ℕ) (there : pageBytes s ≤ length pages) (fits : at + len ≤ pageBytes s) where
-  pub located-plain : LocatesEntry s pages lists 1 at len (At (record {
-    kind = 1;
+module _ (s : Sizes) (pages lists : Bytes) (k at len : ℕ) (known : k < kinds) (there : pageBytes s ≤ length pages) (fits : at + len ≤ pageBytes s) where
+  pub located-plain : row k .way ≡ whole → LocatesEntry s pages lists k at len (At (record {
+    kind = k;
     first = len;
     second = 0;
     «front_at» = at;
@@ -52,35 +54,37 @@ module _ (s : Sizes) (pages lists : Bytes) (at len : ℕ) (there : pageBytes s �
     escaped = false;
   }))
   unfolding piecesIn
-  located-plain =
+  located-plain w =
       let l : length (take len (drop at pages)) ≡ len = length-cut pages at len (omega arith) in
       record {
         range = record {
-          kinded = omega arith;
+          kinded = known;
           front = fits;
           back = omega arith;
           lengths = simp length-append (omega (arith, l));
           small = omega arith;
         };
         right = λ st a S p q old h.
-            let t : a .second ≡ [] = legal s a p .shape .second (rw q) in
-            let b : take len (drop at pages) ≡ a .first = rw q at h in
+            let v : row (a .kind) .way ≡ whole = ap (λ (j : ℕ). row j .way) q ∙ w in
+            let t : a .second ≡ [] = legal s a p .shape .second (no-second (a .kind) (ap firstOnly v)) in
+            let b : take len (drop at pages) ≡ a .first = rw v at h in
             record { kind = sym q; first = sym l ∙ ap length b; second = sym (ap length t); bytes = rw (b, t) };
       }
 
   -- What the form of a name unpacks to.
-  unpacks : (a : Name) (hs : List Bytes) → checks s a ≡ none → a .kind ≡ 2 → take len (drop at pages) ≡ keyOf hs a
+  unpacks : row k .way ≡ packs → (a : Name) (hs : List Bytes) → checks s a ≡ none → a .kind ≡ k → take len (drop at pages) ≡ keyOf hs a
       → (accepted (take len (drop at pages)) ≡ true) × (textIn (take len (drop at pages)) ≡ a .first) × (tagIn (take len (drop at pages)) ≡ a .second)
-  unpacks a hs p q h =
-      let b : take len (drop at pages) ≡ packed (a .first) (a .second) = rw q at h in
-      rw b (pack-unpack (a .first) (a .second) (is-legal (a .first) (a .second) (legal-pair s a p (rw q))))
+  unpacks w a hs p q h =
+      let v : row (a .kind) .way ≡ packs = ap (λ (j : ℕ). row j .way) q ∙ w in
+      let b : take len (drop at pages) ≡ packed (a .first) (a .second) = rw v at h in
+      rw b (pack-unpack (a .first) (a .second) (is-legal (a .first) (a .second) (legal-pair s a p (needs-tag (a .kind) (ap packsTag v)))))
 
-  pub located-cut : splitOf (take len (drop at pages)) ≡ F.Cut → LocatesEntry s pages lists 2 at len Bad
-  located-cut e = record { range = tt; right = λ st a S p q old h. clash (unpacks a (st .part 2 .heads) p q h .0) (split-parts _ F.Cut e) }
+  pub located-cut : row k .way ≡ packs → splitOf (take len (drop at pages)) ≡ F.Cut → LocatesEntry s pages lists k at len Bad
+  located-cut w e = record { range = tt; right = λ st a S p q old h. clash (unpacks w a (st .part k .heads) p q h .0) (split-parts _ F.Cut e) }
 
-  module _ (n : ℕ) (e : splitOf (take len (drop at pages)) ≡ F.Short n) where
-    pub located-short : LocatesEntry s pages lists 2 at len (At (record {
-      kind = 2;
+  module _ (w : row k .way ≡ packs) (n : ℕ) (e : splitOf (take len (drop at pages)) ≡ F.Short n) where
+    pub located-short : LocatesEntry s pages lists k at len (At (record {
+      kind = k;
       first = len - (n + 1);
       second = n;
       «front_at» = at + (n + 1);
@@ -97,14 +101,14 @@ module _ (s : Sizes) (pages lists : Bytes) (at len : ℕ) (there : pageBytes s �
         let lb : length (take n (drop (at + 1) pages)) ≡ n = length-cut pages (at + 1) n (omega arith) in
         record {
           range = record {
-            kinded = omega arith;
+            kinded = known;
             front = omega arith;
             back = omega arith;
             lengths = simp length-append (omega (arith, lf, lb));
             small = omega arith;
           };
           right = λ st a St p q old h.
-              let u = unpacks a (st .part 2 .heads) p q h in
+              let u = unpacks w a (st .part k .heads) p q h in
               let f : take (len - (n + 1)) (drop (at + (n + 1)) pages) ≡ a .first =
               cut-behind pages at len (omega arith) (n + 1) inner ∙ sym (S .text) ∙ u .1 in
               let b : take n (drop (at + 1) pages) ≡ a .second =
@@ -112,9 +116,9 @@ module _ (s : Sizes) (pages lists : Bytes) (at len : ℕ) (there : pageBytes s �
               record { kind = sym q; first = sym lf ∙ ap length f; second = sym lb ∙ ap length b; bytes = rw (f, b) };
         }
 
-  module _ (end n : ℕ) (e : splitOf (take len (drop at pages)) ≡ F.Long end n) where
-    pub located-long : LocatesEntry s pages lists 2 at len (At (record {
-      kind = 2;
+  module _ (w : row k .way ≡ packs) (end n : ℕ) (e : splitOf (take len (drop at pages)) ≡ F.Long end n) where
+    pub located-long : LocatesEntry s pages lists k at len (At (record {
+      kind = k;
       first = len - (end + 2);
       second = n;
       «front_at» = at + (end + 2);
@@ -135,14 +139,14 @@ module _ (s : Sizes) (pages lists : Bytes) (at len : ℕ) (there : pageBytes s �
         let low : n ≤ end = long-low S in
         record {
           range = record {
-            kinded = omega arith;
+            kinded = known;
             front = omega arith;
             back = omega arith;
             lengths = simp length-append (omega (arith, lf, lt));
             small = omega arith;
           };
           right = λ st a St p q old h.
-              let u = unpacks a (st .part 2 .heads) p q h in
+              let u = unpacks w a (st .part k .heads) p q h in
               let f : take (len - (end + 2)) (drop (at + (end + 2)) pages) ≡ a .first =
               cut-behind pages at len (omega arith) (end + 2) inner ∙ sym (S .text) ∙ u .1 in
               let b : unescaped false (take end (drop (at + 1) pages)) ≡ a .second = g ∙ u .2 in

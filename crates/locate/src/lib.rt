@@ -4,9 +4,7 @@ use bytes_dictionary::Lookup;
 use layout::Sizes;
 use meta_dv_dict::GlobalId;
 use meta_dv_dict::Owner;
-use names::IRI;
-use names::PLAIN;
-use names::TAGGED;
+use names::Way;
 use parts::Mode;
 use ranked_pair_dictionary::FrequentId;
 use string_dv_dict_unpack::Form;
@@ -18,7 +16,7 @@ ghost use lib.ListN.{length, drop};
 ghost use lib.Seq.{sets};
 ghost use Rattle.slices.specs.Bytes.{Bytes};
 ghost use Rattle.layout.specs.Sizes.{InRange, kinds, pageBytes, listBytes};
-ghost use Rattle.model.specs.Kinds.{row};
+ghost use Rattle.model.specs.Kinds.{whole, packs, row};
 ghost use Rattle.locate.specs.Located.{unescapedIf, piecesIn, Copyable, LocatesEntry, LocatesAlone, LocatesName};
 
 // A name in the pages: its kind, the lengths of its parts, and two pieces whose bytes are the first part, then the second. An IRI and a typed value have head
@@ -65,23 +63,26 @@ fn locate_pair(pages: &[u8], lists: &[u8], s: Sizes, k: usize, at: usize, len: u
     };
     let rest_len = len - length;
     // How many bytes of the rest belong to the first part.
-    let moved = if k == IRI { rest_len } else { 0 };
+    let moved = if names::is_split(k) { rest_len } else { 0 };
+    let first = head_len + moved;
+    let second = rest_len - moved;
+    let rest_at = at + length;
     Located::At(Pieces {
         kind: k,
-        first: head_len + moved,
-        second: rest_len - moved,
+        first,
+        second,
         front_at: head_at,
         front_len: head_len,
-        back_at: at + length,
+        back_at: rest_at,
         back_len: rest_len,
         escaped: false,
     })
 }
 
 // Where a name lies whose entry is a packed text and tag.
-fn locate_tagged(pages: &[u8], at: usize, len: usize) -> Located
-    requires { ⌜ at + len ≤ length (now pages) ⌝ }
-    ensures { λ r. ⌜ LocatesAlone (now (pages .entry)) 2 at len r ⌝ }
+fn locate_tagged(pages: &[u8], k: usize, at: usize, len: usize) -> Located
+    requires { ⌜ (k < kinds) × (row k .way ≡ packs) × (at + len ≤ length (now pages)) ⌝ }
+    ensures { λ r. ⌜ LocatesAlone (now (pages .entry)) k at len r ⌝ }
 {
     match string_dv_dict_unpack::split(bytes_dictionary::id_to_bytes(pages, at, len)) {
         Form::Short(n) => {
@@ -90,7 +91,7 @@ fn locate_tagged(pages: &[u8], at: usize, len: usize) -> Located
             let front_at = at + before;
             let back_at = at + 1;
             Located::At(Pieces {
-                kind: TAGGED,
+                kind: k,
                 first: text,
                 second: n,
                 front_at,
@@ -106,7 +107,7 @@ fn locate_tagged(pages: &[u8], at: usize, len: usize) -> Located
             let front_at = at + before;
             let back_at = at + 1;
             Located::At(Pieces {
-                kind: TAGGED,
+                kind: k,
                 first: text,
                 second: n,
                 front_at,
@@ -120,12 +121,13 @@ fn locate_tagged(pages: &[u8], at: usize, len: usize) -> Located
     }
 }
 
-// Where a name lies whose entry is a plain string.
-fn locate_plain(at: usize, len: usize) -> Located
-    ensures { λ r. ⌜ ((pages : Bytes) → LocatesAlone pages 1 at len r) ⌝ }
+// Where a name lies whose entry is its first part.
+fn locate_plain(k: usize, at: usize, len: usize) -> Located
+    requires { ⌜ (k < kinds) × (row k .way ≡ whole) ⌝ }
+    ensures { λ r. ⌜ ((pages : Bytes) → LocatesAlone pages k at len r) ⌝ }
 {
     Located::At(Pieces {
-        kind: PLAIN,
+        kind: k,
         first: len,
         second: 0,
         front_at: at,
@@ -141,13 +143,13 @@ fn locate_entry(pages: &[u8], lists: &[u8], s: Sizes, k: usize, at: usize, len: 
     requires { ⌜ (k < kinds) × (at + len ≤ pageBytes s) ⌝ }
     ensures { λ r. ⌜ LocatesEntry s (now (pages .entry)) (now (lists .entry)) k at len r ⌝ }
 {
-    if k == PLAIN {
-        return locate_plain(at, len);
+    let way = names::row_of(k).way;
+    match way {
+        Way::Splits => locate_pair(pages, lists, s, k, at, len),
+        Way::Whole => locate_plain(k, at, len),
+        Way::Packs => locate_tagged(pages, k, at, len),
+        Way::Pairs => locate_pair(pages, lists, s, k, at, len),
     }
-    if k == TAGGED {
-        return locate_tagged(pages, at, len);
-    }
-    locate_pair(pages, lists, s, k, at, len)
 }
 
 // The name that has a number.

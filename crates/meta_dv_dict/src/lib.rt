@@ -70,7 +70,8 @@ fn held_in(lists: &[u8], s: Sizes, k: usize, l: usize) -> Held
     if s.b < x {
         return Held::Bad;
     }
-    Held::In(x - 1)
+    let g = x - 1;
+    Held::In(g)
 }
 
 // The block of the kind k's next local number.
@@ -119,7 +120,9 @@ pub fn number_in(s: Sizes, g: usize, local: LocalId) -> GlobalId
 {
     let size = block_size(s);
     let rest = local.0 % size;
-    GlobalId(g * size + rest)
+    let start = g * size;
+    let number = start + rest;
+    GlobalId(number)
 }
 
 // A global number. Bad: the memory is no dictionary's.
@@ -176,5 +179,7 @@ pub fn global_to_local(lists: &[u8], s: Sizes, number: GlobalId) -> Owner
         return Owner::Bad;
     }
     let rest = n % size;
-    Owner::Local(k, LocalId(l * size + rest))
+    let start = l * size;
+    let local = start + rest;
+    Owner::Local(k, LocalId(local))
 }

@@ -1,7 +1,7 @@
 -- The rules of the table of kinds. Each is one test, computed over all rows, and `each-row` or `any-row` turns it into the rule at a kind. Assumes nothing.
 use Prim.Native.Nat.{ℕ, zero, suc, _+_, _<_, _≤_}
 use mathlib.Core.Path.{_≡_, refl, sym, ap, subst, _∙_}
-use mathlib.Core.Logic.{inl, inr, _≢_}
+use mathlib.Core.Logic.{inl, inr}
 use mathlib.Core.Bool.{Bool, true, false, _&&_, _||_, not, cond}
 use mathlib.Core.List.{List, [], _∷_}
 use native.Mathlib.Nat.{add-zero, add-suc, suc-add, zero-add}
@@ -90,7 +90,7 @@ firstOnly whole = true
 firstOnly packs = false
 firstOnly pairs = false
 
--- Its kinds have none.
+-- A kind that is stored so has no second part.
 pub no-second : (k : ℕ) → firstOnly (row k .way) ≡ true → row k .noSecond ≡ true
 no-second k = by-only _ _ (any-row (λ r. only (firstOnly (r .way)) (r .noSecond)) refl refl k)
 

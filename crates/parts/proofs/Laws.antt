@@ -1,4 +1,4 @@
--- What escaping does to a list of bytes; storing and comparing one form after the other. Assumes nothing.
+-- What escaping does to a list of bytes; a stored tag, a byte at a time; storing and comparing one part after the other. Assumes nothing.
 use Prim.Native.Nat.{ℕ, suc, _+_, _*_, _≤_, _<_}
 use mathlib.Core.Path.{_≡_, refl, sym, ap}
 use mathlib.Core.Logic.{_⊎_, inl, inr, _≢_}
@@ -113,6 +113,10 @@ and-assoc false b c = refl
 pub and-true : (t : Bool) → t ≡ (t && true)
 and-true true = refl
 and-true false = refl
+
+-- The byte a stands at `at`.
+pub same-one : (a at : ℕ) (s : Bytes) → at < length s → eqb a (getD s at 0) ≡ sameBytes (a ∷ []) (take 1 (drop at s))
+same-one a at s l = rw (drop-cons s at 0) (and-true (eqb a (getD s at 0)))
 
 -- A comparison, one part after the other.
 pub same-append : (x y s : Bytes) → sameBytes (x ++ y) s ≡ (sameBytes x (take (length x) s) && sameBytes y (drop (length x) s))

@@ -38,11 +38,11 @@ bytesOf Tag s = tagBytes s
 
 -- ---- the same, a byte at a time: the loops of the code follow these definitions (`tag-bytes` of proofs/Laws.antt)
 
--- How a tag is stored.
+-- How the bytes of a tag are stored.
 abbrev pub formOf : Bytes → Form
 formOf tag = record { long = isLong tag }
 
--- The byte in front.
+-- The byte in front of a tag.
 abbrev pub firstByte : Bytes → ℕ
 firstByte tag = cond (isLong tag) 0 (length tag)
 
@@ -50,16 +50,16 @@ firstByte tag = cond (isLong tag) 0 (length tag)
 unfoldable pub encodedByte : Form → ℕ → Bytes
 encodedByte form b = cond (form .long) (escape b) (b ∷ [])
 
--- What stands at the end.
+-- What is stored behind the last byte.
 abbrev pub encodedEnd : Form → Bytes
 encodedEnd form = cond (form .long) (62 ∷ []) []
 
--- What stands behind the first byte.
+-- What stands behind the byte in front.
 unfoldable pub encoded : Form → Bytes → Bytes
 encoded form [] = encodedEnd form
 encoded form (b ∷ tag) = encodedByte form b ++ encoded form tag
 
--- The bytes that the code's answer for one byte holds.
+-- The bytes that the code's answer for one byte, or for the end, holds.
 abbrev pub storedBytes : Stored → Bytes
 storedBytes Nothing = []
 storedBytes (One a) = a ∷ []

@@ -17,19 +17,20 @@ pub enum Mode {
 // The most bytes of a tag that is stored with its length in front.
 pub const SHORT: usize = 127;
 
-// How the bytes of a tag are stored.
+// How the bytes of a tag are stored: each field is a rule that `encode_byte` and `encode_end` follow.
 struct Form {
     // Escaped and closed by '>', since the byte in front does not say the length.
     long: bool,
 }
 
-// What is stored for one byte of a tag, or at its end.
+// What is stored for one byte of a tag, or behind its last.
 enum Stored {
     Nothing,
     One(u8),
     Two(u8, u8),
 }
 
+// The only test of the length.
 fn form_of(tag: &[u8]) -> Form
     ensures { λ r. ⌜ r ≡ formOf (now (tag .entry)) ⌝ }
 {
@@ -49,6 +50,7 @@ fn first_byte(tag: &[u8]) -> u8
     tag.len() as u8
 }
 
+// How a byte of a tag is stored. Only this function knows the escapes.
 fn encode_byte(form: Form, b: u8) -> Stored
     ensures { λ r. ⌜ storedBytes r ≡ encodedByte form b ⌝ }
 {
@@ -64,6 +66,7 @@ fn encode_byte(form: Form, b: u8) -> Stored
     Stored::One(b)
 }
 
+// What is stored behind the last byte.
 fn encode_end(form: Form) -> Stored
     ensures { λ r. ⌜ storedBytes r ≡ encodedEnd form ⌝ }
 {
@@ -106,7 +109,7 @@ pub fn measure(mode: Mode, s: &[u8]) -> usize
     }
 }
 
-// Stores it at `at`, and gives the position past it.
+// Stores u at `at`, and gives the position past it.
 fn put_stored(dst: &mut [u8], at: usize, u: Stored) -> usize
     requires { ⌜ at + length (storedBytes u) ≤ length (now dst) ⌝ }
     ensures { λ r. ⌜ (r ≡ at + length (storedBytes u)) × (now (dst .exit) ≡ sets (now (dst .entry)) at (storedBytes u)) ⌝ }
@@ -206,17 +209,17 @@ fn has_byte(stored: &[u8], at: usize, a: u8) -> bool
     a == stored[at]
 }
 
-// Whether it stands at `at`.
+// Whether u stands at `at`.
 fn has_stored(stored: &[u8], at: usize, u: Stored) -> bool
-    requires { ⌜ at ≤ length (now stored) ⌝ }
+    requires { ⌜ at + length (storedBytes u) ≤ length (now stored) ⌝ }
     ensures { λ r. ⌜ r ≡ sameBytes (storedBytes u) (take (length (storedBytes u)) (drop at (now (stored .entry)))) ⌝ }
 {
     match u {
         Stored::Nothing => true,
-        Stored::One(a) => has_byte(stored, at, a),
+        Stored::One(a) => a == stored[at],
         Stored::Two(a, b) => {
-            if has_byte(stored, at, a) {
-                has_byte(stored, at + 1, b)
+            if a == stored[at] {
+                b == stored[at + 1]
             } else {
                 false
             }
@@ -240,11 +243,14 @@ fn same_raw(s: &[u8], stored: &[u8]) -> bool
     true
 }
 
-// Whether s is stored from `start` to the end.
+// Whether s is stored from `start` to the end. The lengths are compared first, so no byte needs a test for the end.
 fn same_encoded(form: Form, s: &[u8], stored: &[u8], start: usize) -> bool
     requires { ⌜ start ≤ length (now stored) ⌝ }
     ensures { λ r. ⌜ r ≡ sameBytes (encoded form (now (s .entry))) (drop start (now (stored .entry))) ⌝ }
 {
+    if stored.len() - start != measure_encoded(form, s) {
+        return false;
+    }
     let mut at = start;
     let mut i = 0;
     while i < s.len() {
@@ -255,11 +261,7 @@ fn same_encoded(form: Form, s: &[u8], stored: &[u8], start: usize) -> bool
         at += width(u);
         i += 1;
     }
-    let u = encode_end(form);
-    if !has_stored(stored, at, u) {
-        return false;
-    }
-    at + width(u) == stored.len()
+    has_stored(stored, at, encode_end(form))
 }
 
 // Whether s in this mode is stored as the bytes `stored`.

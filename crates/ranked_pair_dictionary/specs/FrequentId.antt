@@ -10,6 +10,7 @@ use Rattle.refusals.specs.declared.Refusal.{Refusal}
 use Rattle.refusals.specs.declared.Refusal.the-variants.{ShortBuffer, HighNumber, CutForm}
 use Rattle.refusals.specs.declared.Written.{Written}
 use Rattle.refusals.specs.Written.{writtenBy, placedBy}
+use Rattle.ranked_pair_dictionary.specs.declared.Lead.{Lead}
 use Rattle.ranked_pair_dictionary.specs.declared.FrequentId.{FrequentId}
 use Rattle.ranked_pair_dictionary.specs.declared.FrequentId.the-variants.{Value, Refused}
 
@@ -34,6 +35,10 @@ furtherBytes f = cond (ltb f (2 ^ 6)) 0 (cond (ltb f (2 ^ 14)) 1 (cond (ltb f (2
 -- Document 01: a lead.
 unfoldable pub fid : ℕ → Bytes
 fid f = frequentId (furtherBytes f) f
+
+-- The bytes of a frequent id that is held by value.
+abbrev pub leadBytes : Lead → Bytes
+leadBytes x = take (x .len) (x .bytes)
 
 -- ---- writing, into a buffer of `room` bytes
 

@@ -1,3 +1,4 @@
-pub mod Leads
-pub mod Finds
+-- Laws that belong to no one function.
+pub mod Keys
+pub mod Ends
 pub mod Ascii

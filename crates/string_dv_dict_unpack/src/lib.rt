@@ -60,14 +60,17 @@ fn scan_byte(state: Scan, c: u8) -> Scan
             if c == b'\\' {
                 return Scan::Escape(n);
             }
-            Scan::Whole(n + 1)
+            let more = n + 1;
+            Scan::Whole(more)
         }
         Scan::Escape(n) => {
             if c == b'\\' {
-                return Scan::Whole(n + 1);
+                let more = n + 1;
+                return Scan::Whole(more);
             }
             if c == b'a' {
-                return Scan::Whole(n + 1);
+                let more = n + 1;
+                return Scan::Whole(more);
             }
             Scan::Bad
         }

@@ -52,7 +52,8 @@ fn next(left: usize, lo: u8, hi: u8, b: u8) -> Step
     if hi < b {
         return Step::Bad;
     }
-    Step::Due(left - 1, 0x80, 0xBF)
+    let due = left - 1;
+    Step::Due(due, 0x80, 0xBF)
 }
 
 // Where a character ends. Bad: the bytes are no character.

@@ -5,10 +5,9 @@ use native.Mathlib.Omega.{arith}
 use lib.ListN.{length}
 use Rattle.layout.specs.Sizes.{pageSize, listBytes}
 use Rattle.layout.proofs.Ranges.{page-size}
-use Rattle.bytes_index.specs.Search.{keyBytes}
+use Rattle.bytes_index.specs.Search.{bytesIn}
 use Rattle.bytes_dictionary.specs.declared.Room.the-variants.{At}
 use Rattle.bytes_dictionary.specs.Written.{roomOf, IsSpot}
-use Rattle.bytes_dictionary.proofs.Keys.{length-key}
 use Rattle.bytes_dictionary.proofs.Written.{room-spot, room-fits, room-current, room-next, after-current, after-next, after-none}
 use borrow.Author.Needs.{needs}
 use Rattle.bytes_dictionary.proofs.insert.Statement.{statement}
@@ -23,23 +22,22 @@ found c = sym (c .before .before .room-at .ensures) ∙ c .page .given .1
 
 fits : (c : tie.After-page) →
     let a = start c .args in
-    (c .page .given .0 .0 < a .s .n) × (c .page .given .0 .1 .0 + length (keyBytes (a .mode) (a .front .now) (a .rest .now)) ≤ pageSize (a .s))
+    (c .page .given .0 .0 < a .s .n) × (c .page .given .0 .1 .0 + length (bytesIn (a .key) (a .front .now) (a .rest .now)) ≤ pageSize (a .s))
 fits c = let z = start c in room-fits (z .args .s) _ (z .args .spot) _ _ (z .pre .1 .0) (found c)
 
--- The key's length is the sum that is computed, and the key ends in its page.
-sized : (c : tie.After-measure) →
+-- The key's length is the one that is computed, and the key ends in its page.
+sized : (c : tie.After-key-length) →
     let p = c .before .before in
     let a = start p .args in
-    let n = c .measure .result + length (a .rest .now) in
-    (n ≡ length (keyBytes (a .mode) (a .front .now) (a .rest .now))) × (p .page .given .0 .1 .0 + n ≤ pageSize (a .s)) × (pageSize (a .s) ≤ 1048576)
+    let n = c .key-length .result in
+    (n ≡ length (bytesIn (a .key) (a .front .now) (a .rest .now))) × (p .page .given .0 .1 .0 + n ≤ pageSize (a .s)) × (pageSize (a .s) ≤ 1048576)
 sized c =
     let p = c .before .before in
     let a = start p .args in
-    let l = length-key (a .mode) (a .front .now) (a .rest .now) in
-    (omega (arith, l, c .measure .ensures), omega (arith, l, c .measure .ensures, fits p .1), page-size (a .s) (start p .pre .0 .0 .ranged) .1)
+    (c .key-length .ensures, omega (arith, c .key-length .ensures, fits p .1), page-size (a .s) (start p .pre .0 .0 .ranged) .1)
 
 -- Where that was computed, before the entry was written.
-abbrev measured : tie.After-place-entry → tie.After-measure
+abbrev measured : tie.After-place-entry → tie.After-key-length
 measured c = c .before .before .before
 
 room-at-requires : tie.Need-room-at-requires
@@ -54,17 +52,11 @@ enum-told c = search needs
 returns : tie.Need-returns
 returns c =
     let a = c .before .before .before .before .before .before .before .args in
-    after-none (a .s) (a .pages .now) (a .lists .now) (a .x .d) (a .x .n) (a .x .place) (a .spot) (a .x .stamp) (keyBytes (a .mode) (a .front .now) (a .rest .now))
+    after-none (a .s) (a .pages .now) (a .lists .now) (a .key .d) (a .x .n) (a .x .place) (a .spot) (a .x .stamp) (bytesIn (a .key) (a .front .now) (a .rest .now))
     (sym (c .before .before .room-at .ensures) ∙ c .enum-told .given .1)
 
-measure-requires : tie.Need-measure-requires
-measure-requires c κs =
-    let p = c .before in
-    let a = start p .args in
-    omega (arith, length-key (a .mode) (a .front .now) (a .rest .now), fits p .1, page-size (a .s) (start p .pre .0 .0 .ranged))
-
-add-len : tie.Need-add-len
-add-len c = omega (arith, sized c)
+key-length-requires : tie.Need-key-length-requires
+key-length-requires c κs = start (c .before) .pre .1 .1 .fits
 
 place-entry-requires : tie.Need-place-entry-requires
 place-entry-requires c κs =
@@ -116,10 +108,10 @@ returns-2 c =
     let g = m .before .before in
     let z = start g in
     let a = z .args in
-    after-current (a .s) (a .pages .now) (a .lists .now) (a .x .d) (a .x .n) (a .x .place) (a .spot) (a .x .stamp) (keyBytes (a .mode) (a .front .now) (a .rest .now))
-    (g .page .given .0 .0) (g .page .given .0 .1 .0) _ (a .x .h) _ _ _
+    after-current (a .s) (a .pages .now) (a .lists .now) (a .key .d) (a .x .n) (a .x .place) (a .spot) (a .x .stamp) (bytesIn (a .key) (a .front .now) (a .rest .now))
+    (g .page .given .0 .0) (g .page .given .0 .1 .0) _ (a .key .h) _ _ _
     (room-current (a .spot) _ _ _ _ (t .enum-told2 .given .1) (found g))
-    (sized m .0) (z .pre .1 .1) (w .place-entry .ensures .0) (w .place-entry .ensures .1) (c .before .before .extend .ensures)
+    (sized m .0) (z .pre .1 .1 .hashed) (w .place-entry .ensures .0) (w .place-entry .ensures .1) (c .before .before .extend .ensures)
 
 same-length-3 : tie.Need-same-length-3
 same-length-3 c = search needs
@@ -136,8 +128,8 @@ returns-3 c =
     let z = start g in
     let a = z .args in
     let n = room-next (a .spot) _ _ _ (t .enum-told3 .given .1) (found g) in
-    after-next (a .s) (a .pages .now) (a .lists .now) (a .x .d) (a .x .n) (a .x .place) (a .spot) (a .x .stamp) (keyBytes (a .mode) (a .front .now) (a .rest .now))
-    (g .page .given .0 .0) _ (a .x .h) _ _ _ (n .0) (sized m .0) (z .pre .1 .1) (rw (n .1) at (w .place-entry .ensures .0)) (rw (n .1) at (w .place-entry .ensures .1))
+    after-next (a .s) (a .pages .now) (a .lists .now) (a .key .d) (a .x .n) (a .x .place) (a .spot) (a .x .stamp) (bytesIn (a .key) (a .front .now) (a .rest .now))
+    (g .page .given .0 .0) _ (a .key .h) _ _ _ (n .0) (sized m .0) (z .pre .1 .1 .hashed) (rw (n .1) at (w .place-entry .ensures .0)) (rw (n .1) at (w .place-entry .ensures .1))
     (c .before .before .take-page .ensures)
 
 same-length-5 : tie.Need-same-length-5
@@ -171,8 +163,7 @@ insert-spec =
     enum-known-page
     enum-told
     returns
-    measure-requires
-    add-len
+    key-length-requires
     place-entry-requires
     enum-told-2
     add-extend

@@ -5,7 +5,7 @@ use native.Mathlib.Omega.{arith}
 use lib.ListN.{length}
 use Rattle.layout.specs.Sizes.{pageBytes}
 use Rattle.layout.proofs.Ranges.{page-size, page-bytes, in-pages}
-use Rattle.bytes_index.specs.Search.{keyBytes}
+use Rattle.bytes_index.specs.Search.{bytesIn}
 use borrow.Author.Needs.{needs}
 use Rattle.bytes_dictionary.proofs.place_entry.Statement.{statement}
 use Rattle.bytes_dictionary.proofs.place_entry.Tie as tie
@@ -17,12 +17,12 @@ start c = c .before .before .before .before .before
 placed : (c : tie.After-page-size) →
     let a = start c .args in
     (a .lies .page * c .page-size .result + c .page-size .result ≤ pageBytes (a .s))
-    × (a .lies .offset + length (keyBytes (a .mode) (a .front .now) (a .rest .now)) ≤ c .page-size .result)
+    × (a .lies .offset + length (bytesIn (a .key) (a .front .now) (a .rest .now)) ≤ c .page-size .result)
 placed c =
     let z = start c in
     let a = z .args in
     subst
-    (λ (r : ℕ). (a .lies .page * r + r ≤ pageBytes (a .s)) × (a .lies .offset + length (keyBytes (a .mode) (a .front .now) (a .rest .now)) ≤ r))
+    (λ (r : ℕ). (a .lies .page * r + r ≤ pageBytes (a .s)) × (a .lies .offset + length (bytesIn (a .key) (a .front .now) (a .rest .now)) ≤ r))
     (sym (c .page-size .ensures))
     (in-pages (a .s) (a .lies .page) _ (z .pre .1 .0) (omega arith), omega (arith, z .pre .1 .1, z .pre .1 .2))
 

@@ -1,8 +1,13 @@
 -- Four stores, all inside the dictionary's words and the header. Assumes nothing.
-use Prim.Native.Nat.{_+_, _*_, _≤_}
+use Prim.Native.Nat.{ℕ, _+_, _*_, _≤_}
+use mathlib.Core.Path.{_≡_}
 use native.Mathlib.Omega.{arith}
 use lib.ListN.{length}
+use Rattle.slices.specs.Bytes.{Bytes}
+use Rattle.words.specs.Words.{setWord, setQuad}
+use Rattle.layout.specs.declared.Sizes.{Sizes}
 use Rattle.layout.specs.Sizes.{listBytes}
+use Rattle.layout.specs.Fields.{countAt, dictAt, entryWord, placeWord}
 use Rattle.bytes_dictionary.specs.Written.{entryWritten}
 use Rattle.bytes_dictionary.proofs.Reading.{words-in}
 use borrow.Author.Needs.{needs}
@@ -12,10 +17,10 @@ use Rattle.bytes_dictionary.proofs.write_entry.Tie as tie
 -- The words of the dictionary lie inside the lists.
 base : (c : tie.After-dict-at) →
     let a = c .before .before .args in
-    (8 * (c .dict-at .result + 3 * a .s .e) ≤ length (a .lists .now)) × (c .dict-at .result + 3 * a .s .e ≤ 20000000)
+    (8 * (c .dict-at .result + 3 * a .s .e) ≤ length (a .lists .now)) × (c .dict-at .result + 3 * a .s .e ≤ 1073741824)
 base c =
     let z = c .before .before in
-    let w = words-in (z .args .s) (z .args .x .d) (z .pre .0 .0) (z .pre .0 .2) in
+    let w = words-in (z .args .s) (z .args .d) (z .pre .0 .0) (z .pre .0 .2) in
     (omega (arith, w .0, c .dict-at .ensures, z .pre .0 .1), omega (arith, w .1, c .dict-at .ensures))
 
 -- Where their start was computed, two stores before.
@@ -77,9 +82,24 @@ put-word-requires-3 c κs = omega arith
 same-length : tie.Need-same-length
 same-length c = search needs
 
-returns : tie.Need-returns
+-- The four stores, one after the other.
+stores : (s : Sizes) (l l₁ l₂ l₃ l₄ : Bytes) (d n page offset len stamp place h base w q : ℕ) → base ≡ dictAt s d → w ≡ entryWord page offset len → q ≡ placeWord n h
+    → l₁ ≡ setWord l (base + n) w → l₂ ≡ setWord l₁ (base + (s .e + n)) stamp → l₃ ≡ setQuad l₂ (2 * (base + 2 * s .e) + place) q → l₄ ≡ setWord l₃ (countAt d) (n + 1)
+    → l₄ ≡ entryWritten s l d n page offset len stamp place h
 unfolding entryWritten
-returns c = cc
+stores s l l₁ l₂ l₃ l₄ d n page offset len stamp place h base w q b e p f g i j = cc
+
+returns : tie.Need-returns
+returns c =
+    let w = c .before .before in
+    let q = w .before .before .before .before in
+    let u = q .before .before .before .before .before .before in
+    let v = based u in
+    let z = v .before .before .args in
+    let f = u .before .before .before .before in
+    stores (z .s) (z .lists .now) _ _ _ _ (z .d) (z .x .n) (z .lies .page) (z .lies .offset) (z .lies .len) (z .x .stamp) (z .x .place) (z .h) _ _ _
+    (v .dict-at .ensures) (f .before .entry-word .ensures) (q .before .place-word .ensures)
+    (f .put-word .ensures) (u .put-word2 .ensures) (q .put-quad .ensures) (w .put-word3 .ensures)
 
 pub write-entry-spec : {M : Type 1} → statement M
 write-entry-spec =

@@ -2,7 +2,7 @@
 use Prim.Native.Nat.{_-_}
 use native.Mathlib.Omega.{arith}
 use Rattle.slices.proofs.Sets.{sets-mid}
-use Rattle.bytes_index.specs.Search.{keyBytes}
+use Rattle.bytes_index.specs.Search.{bytesIn}
 use borrow.Author.Needs.{needs}
 use Rattle.bytes_dictionary.proofs.write_key.Statement.{statement}
 use Rattle.bytes_dictionary.proofs.write_key.Tie as tie
@@ -27,7 +27,7 @@ returns c =
     let z = c .before .before .before .before .before .before .before in
     let a = z .args in
     rw (c .before .before .write-tail .ensures)
-    (sets-mid (keyBytes (a .mode) (a .front .now) (a .rest .now)) (a .pages .now) (a .at) (a .end - a .at) (omega (arith, z .pre)) (omega (arith, z .pre)))
+    (sets-mid (bytesIn (a .key) (a .front .now) (a .rest .now)) (a .pages .now) (a .at) (a .end - a .at) (omega (arith, z .pre)) (omega (arith, z .pre)))
 
 pub write-key-spec : {M : Type 1} → statement M
 write-key-spec =

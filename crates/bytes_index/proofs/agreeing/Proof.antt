@@ -1,24 +1,19 @@
 -- Two words are equal exactly where their eight bytes are. Assumes nothing.
-use mathlib.Core.Path.{_≡_, sym, ap, _∙_}
+use mathlib.Core.Path.{_≡_, sym, _∙_}
 use mathlib.Core.Logic.{⊎-elim}
 use Prim.Native.Nat.{ℕ, _+_, _-_, _≤_, _<_}
 use native.Mathlib.Omega.{arith}
 use borrow.Author.Needs.{needs}
 use borrow.Author.Tests.{not-true, not-false}
-use lib.ListN.{length, getD, take, drop, length-take, length-drop}
-use lib.Seq.{ext-getD, getD-take, getD-drop}
-use Rattle.slices.specs.Bytes.{Bytes, sameBytes}
-use Rattle.slices.proofs.Bytes.{bytes-true, bytes-same}
-use Rattle.slices.proofs.Tests.{clash}
+use lib.ListN.{length, getD}
+use Rattle.slices.specs.Bytes.{Bytes}
 use Rattle.parts.specs.Parts.{bytesOf}
 use Rattle.words.specs.Words.{leAt}
 use Rattle.words.proofs.Laws.{le-agree, le-same}
 use Rattle.bytes_index.specs.Search.{Agree, Agreeing}
+use Rattle.bytes_index.proofs.Compared.{no-more, at-once-not, at-once}
 use Rattle.bytes_index.proofs.agreeing.Statement.{statement}
 use Rattle.bytes_index.proofs.agreeing.Tie as tie
-
-no-more : (pages : Bytes) (end : ℕ) (rest : Bytes) (left : ℕ) → (Agree pages end rest 0 (length rest) → ⊥) → Agreeing pages end rest left 0
-no-more pages end rest left h = record { within = omega arith; same = λ k l u. absurd (omega arith); differ = λ z. h }
 
 -- The eight bytes that begin where `from` are left.
 module _ (pages : Bytes) (end : ℕ) (rest : Bytes) (from : ℕ) (eight : 8 ≤ from) (inside : from ≤ length rest) (fits : length rest ≤ end) where
@@ -38,32 +33,6 @@ module _ (pages : Bytes) (end : ℕ) (rest : Bytes) (from : ℕ) (eight : 8 ≤ 
       let w = le-same 8 pages rest (end - from) (length rest - from) b d e (from - k) (omega arith) in
       cc
 
--- The part of the pages that the rest is compared with.
-module _ (pages : Bytes) (end : ℕ) (rest : Bytes) (fits : length rest ≤ end) (inside : end ≤ length pages) where
-  part : Bytes
-  part = take (end - (end - length rest)) (drop (end - length rest) pages)
-
-  part-byte : (i : ℕ) → i < length rest → getD part i 0 ≡ getD pages (end - (length rest - i)) 0
-  unfolding part
-  part-byte i l =
-      let e : end - length rest + i ≡ end - (length rest - i) = omega arith in
-      getD-take (end - (end - length rest)) (drop (end - length rest) pages) i 0 (omega arith) ∙ getD-drop (end - length rest) pages i 0 ∙ ap (λ (x : ℕ). getD pages x 0) e
-
-  bytes-part : Agree pages end rest 0 (length rest) → part ≡ rest
-  unfolding part
-  bytes-part h =
-      let l : length part ≡ length rest = simp (length-take, length-drop) (omega arith) in
-      ext-getD 0 part rest l
-      (λ i g.
-      let e : length rest - (length rest - i) ≡ i = omega arith in
-      part-byte i (omega arith) ∙ h (length rest - i) (omega arith) (omega arith) ∙ ap (λ (x : ℕ). getD rest x 0) e)
-
-  part-bytes : rest ≡ part → Agree pages end rest 0 (length rest)
-  part-bytes e k l u =
-      let p : length rest - (length rest - k) ≡ k = omega arith in
-      sym (part-byte (length rest - k) (omega arith) ∙ ap (λ (x : ℕ). getD pages (end - x) 0) p)
-      ∙ ap (λ (x : Bytes). getD x (length rest - k) 0) (sym e)
-
 sub-start : tie.Need-sub-start
 sub-start c = search needs
 
@@ -80,26 +49,17 @@ same-requires : tie.Need-same-requires
 same-requires c κs = search needs
 
 returns : tie.Need-returns
-unfolding bytesOf part
+unfolding bytesOf
 returns c =
     let z = c .before .before .before .before .before .before .args in
-    let s = z .rest .now in
-    no-more (z .pages .now) (z .end) s (z .left)
-    (λ h.
-    clash (ap (sameBytes s) (bytes-part (z .pages .now) (z .end) s (omega arith) (omega arith) h) ∙ bytes-same s)
-    (sym (c .before .same .ensures) ∙ not-true _ (c .if2 .taken)))
+    at-once-not (z .pages .now) (z .end) (z .rest .now) (omega arith) (omega arith) (z .left) (sym (c .before .same .ensures) ∙ not-true _ (c .if2 .taken))
 
 returns-2 : tie.Need-returns-2
-unfolding bytesOf part
+unfolding bytesOf
 returns-2 c =
     let z = c .before .before .before .before .before .before .args in
-    let s = z .rest .now in
-    let e = bytes-true s _ (sym (c .before .same .ensures) ∙ not-false _ (c .if2 .left)) in
-    record {
-      within = omega arith;
-      same = λ k l u. part-bytes (z .pages .now) (z .end) s (omega arith) (omega arith) e k (omega arith) (omega arith);
-      differ = λ p. absurd (omega arith);
-    }
+    at-once (z .pages .now) (z .end) (z .rest .now) (omega arith) (omega arith) (z .left) (omega arith) (omega arith)
+    (sym (c .before .same .ensures) ∙ not-false _ (c .if2 .left))
 
 -- The eight bytes lie in the rest.
 whole : (c : tie.Joined3) → (8 ≤ c .if3 .from) × (c .if3 .from ≤ length (c .before .before .before .before .args .rest .now))

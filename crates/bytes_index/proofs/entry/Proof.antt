@@ -69,11 +69,11 @@ add-if2 c = search needs
 returns-2 : tie.Need-returns-2
 returns-2 c = bad _ _ _ (word (c .before .before .before .before)) (λ p q. omega (arith, c .before .before .before .page-size .ensures))
 
-mul-t10 : tie.Need-mul-t10
-mul-t10 c = omega (arith, start-in c)
+mul-start : tie.Need-mul-start
+mul-start c = omega (arith, start-in c)
 
-add-t11 : tie.Need-add-t11
-add-t11 c = omega (arith, start-in c)
+add-at : tie.Need-add-at
+add-at c = omega (arith, start-in c)
 
 returns-3 : tie.Need-returns-3
 returns-3 c = at _ _ _ _ (word (c .before .before .before .before)) (c .before .before .before .page-size .ensures) (omega arith) (omega arith)
@@ -89,6 +89,6 @@ entry-spec =
     returns
     add-if2
     returns-2
-    mul-t10
-    add-t11
+    mul-start
+    add-at
     returns-3)

@@ -14,19 +14,26 @@ use borrow.Author.Needs.{needs}
 use Rattle.dictionary.proofs.count.Statement.{statement}
 use Rattle.dictionary.proofs.count.Tie as tie
 
+-- The function's start, from where the sizes were known; and that place, from where the count was read.
+abbrev start : tie.After-s → tie.Start
+start c = c .before .before .before .before .before
+
+abbrev sized : tie.After-count → tie.After-s
+sized c = c .before .before .before .before
+
 -- The sizes that the header has.
 opened : (c : tie.After-s) →
-    let a = c .before .before .before .before .before .args in
+    let a = start c .args in
     headerOf (length (a .pages .now)) (a .lists .now) ≡ Opened (c .s .given .0 .0)
 opened c = sym (c .before .before .check-header .ensures) ∙ c .s .given .1
 
 -- What the word of the kind's main dictionary says.
 counted : (c : tie.After-count) →
-    let a = c .before .before .before .before .before .before .before .before .before .args in
-    countIn (c .before .before .before .before .s .given .0 .0) (wordAt (a .lists .now) (countAt (row (a .kind) .mainAt))) ≡ c .count .result
+    let a = start (sized c) .args in
+    countIn (sized c .s .given .0 .0) (wordAt (a .lists .now) (countAt (row (a .kind) .mainAt))) ≡ c .count .result
 counted c =
-    let a = c .before .before .before .before .before .before .before .before .before .args in
-    ap (λ d. countIn (c .before .before .before .before .s .given .0 .0) (wordAt (a .lists .now) (countAt d))) (sym (c .before .main-dictionary .ensures .0)) ∙ sym (c .count .ensures)
+    let a = start (sized c) .args in
+    ap (λ d. countIn (sized c .s .given .0 .0) (wordAt (a .lists .now) (countAt d))) (sym (c .before .main-dictionary .ensures .0)) ∙ sym (c .count .ensures)
 
 check-header-requires : tie.Need-check-header-requires
 check-header-requires c κs = search needs
@@ -44,17 +51,19 @@ returns c =
 
 returns-2 : tie.Need-returns-2
 returns-2 c =
-    let a = c .before .before .before .before .before .before .before .args in
-    count-bad-kind (a .pages .now) (a .lists .now) (c .before .before .s .given .0 .0) (opened (c .before .before)) (a .kind) (omega (arith, c .if1 .taken))
+    let z = c .before .before in
+    let a = start z .args in
+    count-bad-kind (a .pages .now) (a .lists .now) (z .s .given .0 .0) (opened z) (a .kind) (omega (arith, c .if1 .taken))
 
 main-dictionary-requires : tie.Need-main-dictionary-requires
 main-dictionary-requires c κs = search needs
 
 count-requires : tie.Need-count-requires
 count-requires c κs =
-    let a = c .before .before .before .before .before .before .before .before .args in
-    let s = c .before .before .before .s .given .0 .0 in
-    (in-range (a .pages .now) (a .lists .now) s (opened (c .before .before .before)), header (a .pages .now) (a .lists .now) s (opened (c .before .before .before)) .lists-fit, c .main-dictionary .ensures .1)
+    let z = c .before .before .before in
+    let a = start z .args in
+    let s = z .s .given .0 .0 in
+    (in-range (a .pages .now) (a .lists .now) s (opened z), header (a .pages .now) (a .lists .now) s (opened z) .lists-fit, c .main-dictionary .ensures .1)
 
 enum-known-counted : tie.Need-enum-known-counted
 enum-known-counted c = search needs
@@ -64,13 +73,17 @@ enum-told-2 c = search needs
 
 returns-3 : tie.Need-returns-3
 returns-3 c =
-    let a = c .before .before .before .before .before .before .before .before .before .before .before .args in
-    count-bad (a .pages .now) (a .lists .now) (c .before .before .before .before .before .before .s .given .0 .0) (opened (c .before .before .before .before .before .before)) (a .kind) (omega (arith, c .before .before .before .before .if1 .left)) (counted (c .before .before) ∙ c .enum-told2 .given .1)
+    let n = c .before .before in
+    let z = sized n in
+    let a = start z .args in
+    count-bad (a .pages .now) (a .lists .now) (z .s .given .0 .0) (opened z) (a .kind) (omega (arith, n .before .before .if1 .left)) (counted n ∙ c .enum-told2 .given .1)
 
 returns-4 : tie.Need-returns-4
 returns-4 c =
-    let a = c .before .before .before .before .before .before .before .before .before .before .before .before .args in
-    count-names (a .pages .now) (a .lists .now) (c .before .before .before .before .before .before .before .s .given .0 .0) (opened (c .before .before .before .before .before .before .before)) (a .kind) (omega (arith, c .before .before .before .before .before .if1 .left)) _ (counted (c .before .before .before) ∙ c .before .counted .given .1)
+    let n = c .before .before .before in
+    let z = sized n in
+    let a = start z .args in
+    count-names (a .pages .now) (a .lists .now) (z .s .given .0 .0) (opened z) (a .kind) (omega (arith, n .before .before .if1 .left)) _ (counted n ∙ c .before .counted .given .1)
 
 pub count-spec : {M : Type 1} → statement M
 count-spec =

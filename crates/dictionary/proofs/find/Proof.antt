@@ -11,8 +11,12 @@ use Rattle.refusals.proofs.Told.{told-legal, told-illegal}
 use Rattle.model.specs.Names.{entered}
 use Rattle.model.specs.Steps.{shapeRefusal, checks}
 use Rattle.model.proofs.Legal.{legal-shape, shape-refused, text-decides}
-use Rattle.search.specs.declared.Search.the-variants.{Found}
-use Rattle.search.specs.Found.{FindsName}
+use Rattle.model.specs.Kinds.{row}
+use Rattle.model.specs.State.{State, localOf}
+use Rattle.memory.specs.Stands.{Stands}
+use Rattle.search.specs.declared.Search.{Search}
+use Rattle.search.specs.Found.{Tells, EndedBy}
+use Rattle.search.proofs.Ends.{tells}
 use Rattle.dictionary.proofs.Headers.{header, in-range}
 use Rattle.dictionary.proofs.Finds.{find-unopened, find-illegal, find-known, find-bad-number, find-none, find-bad}
 use borrow.Author.Needs.{needs}
@@ -55,16 +59,18 @@ legal : (c : tie.After-enum-told3) →
     checks (o .s .given .0 .0) (entered (a .kind) (a .first .now) (a .second .now)) ≡ none
 legal c = text-decides _ _ (shaped (c .before .before .before .before)) ∙ told-legal _ (sym (c .before .before .check-text .ensures) ∙ c .enum-told3 .given .1)
 
--- Its local number.
-located : (c : tie.After-found) →
-    let o = c .before .before .before .before .before .before .before .before .before .before in
+-- What the search says of a state, by its answer.
+told : (c : tie.After-enum-told3) (r : Search) → c .before .before .before .find-name .result .found ≡ r →
+    let o = c .before .before .before .before .before .before .before .before in
     let a = o .before .before .before .before .before .before .before .args in
-    FindsName (o .s .given .0 .0) (λ b. b ≡ entered (a .kind) (a .first .now) (a .second .now)) (a .pages .now) (a .lists .now) (Found (c .found .given .0 .0))
-located c =
-    let o = c .before .before .before .before .before .before .before .before .before .before in
+    (st : State) → Stands (o .s .given .0 .0) st (a .pages .now) (a .lists .now) → Tells r (localOf (entered (a .kind) (a .first .now) (a .second .now)) (st .part (a .kind) .names))
+told c r e st S =
+    let o = c .before .before .before .before .before .before .before .before in
     let a = o .before .before .before .before .before .before .before .args in
-    subst (FindsName (o .s .given .0 .0) (λ b. b ≡ entered (a .kind) (a .first .now) (a .second .now)) (a .pages .now) (a .lists .now)) (c .found .given .1)
-    (c .before .before .before .before .before .find-name .ensures .0)
+    let n = entered (a .kind) (a .first .now) (a .second .now) in
+    let f = c .before .before .before .find-name in
+    tells S n (legal c) (f .result) r
+    (subst (EndedBy (o .s .given .0 .0) (a .pages .now) (a .lists .now) (a .kind) (row (a .kind) .head n) (row (a .kind) .rest n) (f .result)) e (f .ensures .0))
 
 check-header-requires : tie.Need-check-header-requires
 check-header-requires c κs = search needs
@@ -137,7 +143,7 @@ returns-4 c =
     let o = t .before .before .before .before .before .before .before .before in
     let a = o .before .before .before .before .before .before .before .args in
     let s = o .s .given .0 .0 in
-    find-bad-number (a .pages .now) (a .lists .now) s (opened o) (entered (a .kind) (a .first .now) (a .second .now)) (legal t) _ (located f)
+    find-bad-number (a .pages .now) (a .lists .now) s (opened o) (entered (a .kind) (a .first .now) (a .second .now)) (legal t) _ (told t _ (f .found .given .1))
     (subst (Globals s (a .lists .now) (a .kind) (f .found .given .0 .0 .0)) (c .enum-told4 .given .1) (c .before .before .local-to-global .ensures))
 
 enum-told-5 : tie.Need-enum-told-5
@@ -153,7 +159,7 @@ returns-5 c =
     let o = t .before .before .before .before .before .before .before .before in
     let a = o .before .before .before .before .before .before .before .args in
     let s = o .s .given .0 .0 in
-    find-known (a .pages .now) (a .lists .now) s (opened o) (entered (a .kind) (a .first .now) (a .second .now)) (legal t) _ (located f) (c .before .number .given .0 .0)
+    find-known (a .pages .now) (a .lists .now) s (opened o) (entered (a .kind) (a .first .now) (a .second .now)) (legal t) _ (told t _ (f .found .given .1)) (c .before .number .given .0 .0)
     (subst (Globals s (a .lists .now) (a .kind) (f .found .given .0 .0 .0)) (c .before .number .given .1) (c .before .before .before .local-to-global .ensures))
 
 returns-6 : tie.Need-returns-6
@@ -162,8 +168,7 @@ returns-6 c =
     let o = t .before .before .before .before .before .before .before .before in
     let a = o .before .before .before .before .before .before .before .args in
     let s = o .s .given .0 .0 in
-    find-none (a .pages .now) (a .lists .now) s (opened o) (entered (a .kind) (a .first .now) (a .second .now)) (legal t)
-    (subst (FindsName s (λ b. b ≡ entered (a .kind) (a .first .now) (a .second .now)) (a .pages .now) (a .lists .now)) (c .enum-told5 .given .1) (c .before .before .before .before .before .find-name .ensures .0))
+    find-none (a .pages .now) (a .lists .now) s (opened o) (entered (a .kind) (a .first .now) (a .second .now)) (legal t) (told t _ (c .enum-told5 .given .1))
 
 returns-7 : tie.Need-returns-7
 returns-7 c =
@@ -171,8 +176,7 @@ returns-7 c =
     let o = t .before .before .before .before .before .before .before .before in
     let a = o .before .before .before .before .before .before .before .args in
     let s = o .s .given .0 .0 in
-    find-bad (a .pages .now) (a .lists .now) s (opened o) (entered (a .kind) (a .first .now) (a .second .now)) (legal t)
-    (subst (FindsName s (λ b. b ≡ entered (a .kind) (a .first .now) (a .second .now)) (a .pages .now) (a .lists .now)) (c .enum-told6 .given .1) (c .before .before .before .before .before .find-name .ensures .0))
+    find-bad (a .pages .now) (a .lists .now) s (opened o) (entered (a .kind) (a .first .now) (a .second .now)) (legal t) (told t _ (c .enum-told6 .given .1))
 
 pub find-spec : {M : Type 1} → statement M
 find-spec =

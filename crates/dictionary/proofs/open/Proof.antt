@@ -10,16 +10,26 @@ use borrow.Author.Needs.{needs}
 use Rattle.dictionary.proofs.open.Statement.{statement}
 use Rattle.dictionary.proofs.open.Tie as tie
 
+-- The function's start, from where the sizes were known; that place, from where the pages fit; and that, from where the lists do.
+abbrev start : tie.After-s → tie.Start
+start c = c .before .before .before .before .before
+
+abbrev sized : tie.Else1 → tie.After-s
+sized c = c .before .before .before
+
+abbrev paged : tie.Else2 → tie.Else1
+paged c = c .before .before
+
 -- The sizes are in their ranges.
 fit : (c : tie.After-s) →
-    let a = c .before .before .before .before .before .args in
+    let a = start c .args in
     made (record { p = a .p; n = a .n; e = a .e; w = a .w; b = a .b }) ≡ Fit (c .s .given .0 .0)
 fit c = sym (c .before .before .new .ensures) ∙ c .s .given .1
 
-pages-fit : (c : tie.Else1) → pageBytes (c .before .before .before .s .given .0 .0) ≤ length (c .before .before .before .before .before .before .before .before .args .pages .now)
+pages-fit : (c : tie.Else1) → pageBytes (sized c .s .given .0 .0) ≤ length (start (sized c) .args .pages .now)
 pages-fit c = omega (arith, c .if1 .left, c .before .page-bytes .ensures)
 
-lists-fit : (c : tie.Else2) → listBytes (c .before .before .before .before .before .s .given .0 .0) ≤ length (c .before .before .before .before .before .before .before .before .before .before .args .lists .now)
+lists-fit : (c : tie.Else2) → listBytes (sized (paged c) .s .given .0 .0) ≤ length (start (sized (paged c)) .args .lists .now)
 lists-fit c = omega (arith, c .if2 .left, c .before .list-bytes .ensures)
 
 new-requires : tie.Need-new-requires
@@ -41,27 +51,32 @@ page-bytes-requires c κs = made-range _ _ (fit (c .before))
 
 returns-2 : tie.Need-returns-2
 returns-2 c =
-    let a = c .before .before .before .before .before .before .before .before .args in
-    open-short-pages _ _ (fit (c .before .before .before)) (a .pages .now) (a .lists .now) (omega (arith, c .if1 .taken, c .before .page-bytes .ensures))
+    let z = c .before .before .before in
+    let a = start z .args in
+    open-short-pages _ _ (fit z) (a .pages .now) (a .lists .now) (omega (arith, c .if1 .taken, c .before .page-bytes .ensures))
 
 list-bytes-requires : tie.Need-list-bytes-requires
-list-bytes-requires c κs = made-range _ _ (fit (c .before .before .before))
+list-bytes-requires c κs = made-range _ _ (fit (sized c))
 
 returns-3 : tie.Need-returns-3
 returns-3 c =
-    let a = c .before .before .before .before .before .before .before .before .before .before .args in
-    open-short-lists _ _ (fit (c .before .before .before .before .before)) (a .pages .now) (a .lists .now) (pages-fit (c .before .before)) (omega (arith, c .if2 .taken, c .before .list-bytes .ensures))
+    let p = c .before .before in
+    let a = start (sized p) .args in
+    open-short-lists _ _ (fit (sized p)) (a .pages .now) (a .lists .now) (pages-fit p) (omega (arith, c .if2 .taken, c .before .list-bytes .ensures))
 
 init-requires : tie.Need-init-requires
-init-requires c κs = (made-range _ _ (fit (c .before .before .before .before .before .before)), lists-fit (c .before))
+init-requires c κs = (made-range _ _ (fit (sized (paged (c .before)))), lists-fit (c .before))
 
 same-length : tie.Need-same-length
 same-length c = search needs
 
 returns-4 : tie.Need-returns-4
 returns-4 c =
-    let a = c .before .before .before .before .before .before .before .before .before .before .before .before .before .before .args in
-    open-done _ _ (fit (c .before .before .before .before .before .before .before .before .before)) (a .pages .now) (a .lists .now) (pages-fit (c .before .before .before .before .before .before)) (lists-fit (c .before .before .before .before)) _ (c .before .before .init .ensures)
+    let l = c .before .before .before .before in
+    let p = paged l in
+    let z = sized p in
+    let a = start z .args in
+    open-done _ _ (fit z) (a .pages .now) (a .lists .now) (pages-fit p) (lists-fit l) _ (c .before .before .init .ensures)
 
 pub open-spec : {M : Type 1} → statement M
 open-spec =

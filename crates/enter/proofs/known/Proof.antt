@@ -1,11 +1,8 @@
 -- Each answer by its law. Assumes nothing.
-use Rattle.enter.proofs.Steps.{knows-bad, knows-number}
+use Rattle.enter.proofs.Knows.{knows-bad, knows-number}
 use borrow.Author.Needs.{needs}
 use Rattle.enter.proofs.known.Statement.{statement}
 use Rattle.enter.proofs.known.Tie as tie
-
-entry-to-local-requires : tie.Need-entry-to-local-requires
-entry-to-local-requires c κs = search needs
 
 local-to-global-requires : tie.Need-local-to-global-requires
 local-to-global-requires c κs = search needs
@@ -17,22 +14,11 @@ enum-told : tie.Need-enum-told
 enum-told c = search needs
 
 returns : tie.Need-returns
-returns c =
-    let l = c .before .before in
-    knows-bad _ _ _ _ _ _ (l .local-to-global .ensures) (l .before .entry-to-local .ensures) (c .enum-told .given .1)
+returns c = knows-bad _ _ _ _ _ (c .before .before .local-to-global .ensures) (c .enum-told .given .1)
 
 returns-2 : tie.Need-returns-2
-returns-2 c =
-    let l = c .before .before .before in
-    knows-number _ _ _ _ _ _ (l .local-to-global .ensures) (l .before .entry-to-local .ensures) _ (c .before .number .given .1)
+returns-2 c = knows-number _ _ _ _ _ (c .before .before .before .local-to-global .ensures) _ (c .before .number .given .1)
 
 pub known-spec : {M : Type 1} → statement M
 known-spec =
-    tie.close
-    (tie.spec
-    entry-to-local-requires
-    local-to-global-requires
-    enum-known-number
-    enum-told
-    returns
-    returns-2)
+    tie.close (tie.spec local-to-global-requires enum-known-number enum-told returns returns-2)

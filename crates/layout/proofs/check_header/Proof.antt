@@ -21,8 +21,18 @@ bad : (m : Made) → tagOf the-type m ≡ 1 → m ≡ BadSize
 bad (Fit s) e = absurd (omega arith)
 bad BadSize e = refl
 
+-- The function's start, from where the format was right; that place, from where the sizes were made; and where they were made.
+abbrev start : tie.Else2 → tie.Start
+start c = c .before .before .before .before .before
+
+abbrev formatted : tie.After-new → tie.Else2
+formatted c = c .before .before .before .before .before .before
+
+abbrev sized : tie.After-made → tie.After-new
+sized c = c .before .before
+
 -- The sizes were made of those that lists has.
-answer : (c : tie.After-new) → c .new .result ≡ made (sizesIn (c .before .before .before .before .before .before .before .before .before .before .before .args .lists .now))
+answer : (c : tie.After-new) → c .new .result ≡ made (sizesIn (start (formatted c) .args .lists .now))
 answer c =
     let d = c .before in
     c .new .ensures
@@ -34,9 +44,9 @@ answer c =
       b = d .word-at6 .ensures i;
     })
 
-fit : (c : tie.After-made) → (sizesIn (c .before .before .before .before .before .before .before .before .before .before .before .before .before .args .lists .now) ≡ c .made .given .0 .0) × (inRange (c .made .given .0 .0) ≡ true)
+fit : (c : tie.After-made) → (sizesIn (start (formatted (sized c)) .args .lists .now) ≡ c .made .given .0 .0) × (inRange (c .made .given .0 .0) ≡ true)
 fit c =
-    let q = made-fit _ (c .made .given .0 .0) (sym (answer (c .before .before)) ∙ c .made .given .1) in
+    let q = made-fit _ (c .made .given .0 .0) (sym (answer (sized c)) ∙ c .made .given .1) in
     (q .0, ap inRange (sym (q .0)) ∙ q .1)
 
 returns : tie.Need-returns
@@ -75,7 +85,7 @@ enum-told c = search needs
 returns-3 : tie.Need-returns-3
 returns-3 c =
     let n = c .before .before in
-    sym (always (n .before .before .before .before .before .before .before .before .before .before .before .args .pages .now) _ (out-of-range (made-bad _ (sym (answer n) ∙ bad (n .new .result) (c .before .match .keys2)))))
+    sym (always (start (formatted n) .args .pages .now) _ (out-of-range (made-bad _ (sym (answer n) ∙ bad (n .new .result) (c .before .match .keys2)))))
 
 page-bytes-requires : tie.Need-page-bytes-requires
 page-bytes-requires c κs = ranged _ (fit (c .before) .1)
@@ -83,7 +93,7 @@ page-bytes-requires c κs = ranged _ (fit (c .before) .1)
 returns-4 : tie.Need-returns-4
 returns-4 c =
     let m = c .before .before .before in
-    let a = m .before .before .before .before .before .before .before .before .before .before .before .before .before .args in
+    let a = start (formatted (sized m)) .args in
     let l : length (a .pages .now) < pageBytes (sizesIn (a .lists .now)) = omega (arith, c .if3 .taken, c .before .page-bytes .ensures, ap pageBytes (fit m .0)) in
     sym (always (a .pages .now) _ (short-pages l))
 
@@ -93,17 +103,17 @@ list-bytes-requires c κs = ranged _ (fit (c .before .before .before) .1)
 returns-5 : tie.Need-returns-5
 returns-5 c =
     let m = c .before .before .before .before .before in
-    let a = m .before .before .before .before .before .before .before .before .before .before .before .before .before .args in
+    let a = start (formatted (sized m)) .args in
     let l : length (a .lists .now) < listBytes (sizesIn (a .lists .now)) = omega (arith, c .if4 .taken, c .before .list-bytes .ensures, ap listBytes (fit m .0)) in
     sym (always (a .pages .now) _ (short-lists l))
 
 returns-6 : tie.Need-returns-6
 returns-6 c =
     let m = c .before .before .before .before .before in
-    let n = m .before .before in
-    let a = n .before .before .before .before .before .before .before .before .before .before .before .args in
+    let f = formatted (sized m) in
+    let a = start f .args in
     sym (passes _ (a .pages .now) (a .lists .now) record {
-      format-is = sym (n .before .before .before .before .before .before .before .word-at .ensures) ∙ n .before .before .before .before .before .before .if2 .left;
+      format-is = sym (f .before .word-at .ensures) ∙ f .if2 .left;
       sizes-are = fit m .0;
       ranged = fit m .1;
       pages-fit = omega (arith, c .before .before .if3 .left, c .before .before .before .page-bytes .ensures);

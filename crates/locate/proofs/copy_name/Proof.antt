@@ -7,6 +7,13 @@ use borrow.Author.Needs.{needs}
 use Rattle.locate.proofs.copy_name.Statement.{statement}
 use Rattle.locate.proofs.copy_name.Tie as tie
 
+-- The function's start, from where the front was found; and where the back was found, from behind the front's copy.
+abbrev start : tie.After-id-to-bytes → tie.Start
+start c = c .before .before .before
+
+abbrev found : tie.After-write-piece → tie.After-id-to-bytes2
+found c = c .before .before
+
 id-to-bytes-requires : tie.Need-id-to-bytes-requires
 id-to-bytes-requires c κs = search needs
 
@@ -15,19 +22,21 @@ id-to-bytes-requires-2 c κs = search needs
 
 write-piece-requires : tie.Need-write-piece-requires
 write-piece-requires c κs =
-    let z = c .before .before .before .before .before in
+    let z = start (c .before .before) in
     let p = z .args .pages .now in
     let x = z .args .x in
     omega (arith, ap length (c .before .before .id-to-bytes .ensures), both-lengths p x (z .pre .0), z .pre .1)
 
 write-piece-requires-2 : tie.Need-write-piece-requires-2
 write-piece-requires-2 c κs =
-    let z = c .before .before .before .before .before .before .before .before .before in
+    let w = c .before .before .before in
+    let back = found w in
+    let z = start (back .before) in
     let p = z .args .pages .now in
     let x = z .args .x in
     let front = front-length p x (z .pre .0) in
     let both = both-lengths p x (z .pre .0) in
-    rw (c .before .before .before .before .before .id-to-bytes2 .ensures) (omega (arith, front, both, z .pre .1, c .before .before .before .write-piece .kept .1 .1 .0))
+    rw (back .id-to-bytes2 .ensures) (omega (arith, front, both, z .pre .1, w .write-piece .kept .1 .1 .0))
 
 same-length : tie.Need-same-length
 same-length c = search needs

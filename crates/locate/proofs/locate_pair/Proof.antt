@@ -16,6 +16,16 @@ use borrow.Author.Needs.{needs}
 use Rattle.locate.proofs.locate_pair.Statement.{statement}
 use Rattle.locate.proofs.locate_pair.Tie as tie
 
+-- The function's start, from where the frequent id was known; that place, from where the head was looked up; and that, from where it was found.
+abbrev start : tie.After-lead → tie.Start
+start c = c .before .before .before .before .before .before
+
+abbrev led : tie.After-look-up → tie.After-lead
+led c = c .before .before .before
+
+abbrev asked : tie.After-known-told2 → tie.After-look-up
+asked c = c .before .before .before
+
 -- The frequent id of the entry.
 lead : (c : tie.After-read-frequent-id) (r : FrequentId) → c .read-frequent-id .result ≡ r →
     let a = c .before .before .before .before .args in
@@ -23,36 +33,38 @@ lead : (c : tie.After-read-frequent-id) (r : FrequentId) → c .read-frequent-id
 lead c r e = ap readFidAnswer (sym (c .before .id-to-bytes .ensures)) ∙ sym (c .read-frequent-id .ensures) ∙ e
 
 looked : (c : tie.After-look-up) →
-    let a = c .before .before .before .before .before .before .before .before .before .args in
-    Looked (a .s) (row (a .k) .headsAt) (c .before .before .before .lead .given .0 .0) (a .lists .now) (c .look-up .result)
+    let a = start (led c) .args in
+    Looked (a .s) (row (a .k) .headsAt) (led c .lead .given .0 .0) (a .lists .now) (c .look-up .result)
 looked c = rw (c .before .head-dictionary .ensures .0) at (c .look-up .ensures)
 
 -- The frequent id lies in the entry, and its head was found.
 within : (c : tie.After-known-told2) →
-    let l = c .before .before .before .before .before .before in
-    l .lead .given .0 .1 .0 ≤ l .before .before .before .before .before .before .args .len
+    let l = led (asked c) in
+    l .lead .given .0 .1 .0 ≤ start l .args .len
 within c =
-    let l = c .before .before .before .before .before .before in
-    let z = l .before .before .before .before .before .before in
+    let l = led (asked c) in
+    let z = start l in
     lead-within (z .args .s) _ (z .args .lists .now) (z .args .k) _ _ (z .pre .1 .0) (z .pre .1 .1) (z .pre .0 .1) (z .pre .1 .2) _ _
     (lead (l .before .before) _ (l .lead .given .1))
 
 head : (c : tie.After-known-told2) →
-    let l = c .before .before .before .before .before .before in
-    let a = l .before .before .before .before .before .before .args in
+    let l = led (asked c) in
+    let a = start l .args in
     let h = c .before .head .given in
     Looked (a .s) (row (a .k) .headsAt) (l .lead .given .0 .0) (a .lists .now) (At (h .0 .0) (h .0 .1 .0))
 head c =
-    let l = c .before .before .before .before .before .before in
-    let a = l .before .before .before .before .before .before .args in
+    let l = led (asked c) in
+    let a = start l .args in
     subst (λ (r : Lookup). Looked (a .s) (row (a .k) .headsAt) (l .lead .given .0 .0) (a .lists .now) r) (c .before .head .given .1)
-    (looked (c .before .before .before))
+    (looked (asked c))
 
 moved : (c : tie.Joined1) →
-    let l = c .before .before .before .before .before .before .before in
-    let a = l .before .before .before .before .before .before .args in
-    Moved (a .k) (a .len - l .lead .given .0 .1 .0) (c .if1 .moved)
-moved c = ⊎-elim (λ x. inl (x .0 .taken, x .1)) (λ x. inr (x .0 .left, x .1)) (c .if1 .came)
+    let l = led (asked (c .before .before)) in
+    let a = start l .args in
+    Moved (row (a .k) .way) (a .len - l .lead .given .0 .1 .0) (c .if1 .moved)
+moved c =
+    let e = sym (c .before .is-split .ensures) in
+    ⊎-elim (λ x. inl (e ∙ x .0 .taken, x .1)) (λ x. inr (e ∙ x .0 .left, x .1)) (c .if1 .came)
 
 id-to-bytes-requires : tie.Need-id-to-bytes-requires
 id-to-bytes-requires c κs = search needs
@@ -82,33 +94,43 @@ enum-known-head c = search needs
 
 returns-2 : tie.Need-returns-2
 returns-2 c =
-    let l = c .before .before .before .before in
-    let z = l .before .before .before .before .before .before in
+    let l = led (c .before) in
+    let z = start l in
     bad-head (z .args .s) _ _ _ _ _ (z .pre .1 .0) (z .pre .1 .1) (z .pre .0 .1) (z .pre .1 .2) _ _ (lead (l .before .before) _ (l .lead .given .1))
     (c .before .look-up .result) (c .match2 .keys2) (looked (c .before))
 
 sub-rest-len : tie.Need-sub-rest-len
 sub-rest-len c = within c
 
-add-t16 : tie.Need-add-t16
-add-t16 c =
-    let z = c .before .before .before .before .before .before .before .before .before .before .before .before .before .before in
-    let m = c .before .before in
-    omega (arith, page-bytes (z .args .s) (z .pre .0 .0), head m .inside, moved-le _ _ _ (moved (c .before)), within m)
+is-split-requires : tie.Need-is-split-requires
+is-split-requires c κs = search needs
 
-sub-t20 : tie.Need-sub-t20
-sub-t20 c = moved-le _ _ _ (moved (c .before))
+add-first : tie.Need-add-first
+add-first c =
+    let m = c .before .before .before in
+    let l = led (asked m) in
+    let z = start l in
+    omega (arith, page-bytes (z .args .s) (z .pre .0 .0), head m .inside, moved-le (row (z .args .k) .way) _ _ (moved (c .before)), within m)
 
-add-t21 : tie.Need-add-t21
-add-t21 c =
-    let z = c .before .before .before .before .before .before .before .before .before .before .before .before .before .before in
-    omega (arith, within (c .before .before), z .pre .1 .2, page-bytes (z .args .s) (z .pre .0 .0))
+sub-second : tie.Need-sub-second
+sub-second c =
+    let m = c .before .before .before in
+    let l = led (asked m) in
+    let z = start l in
+    moved-le (row (z .args .k) .way) _ _ (moved (c .before))
+
+add-rest-at : tie.Need-add-rest-at
+add-rest-at c =
+    let m = c .before .before .before in
+    let l = led (asked m) in
+    let z = start l in
+    omega (arith, within m, z .pre .1 .2, page-bytes (z .args .s) (z .pre .0 .0))
 
 returns-3 : tie.Need-returns-3
 returns-3 c =
-    let m = c .before .before in
-    let l = m .before .before .before .before .before .before in
-    let z = l .before .before .before .before .before .before in
+    let m = c .before .before .before in
+    let l = led (asked m) in
+    let z = start l in
     located-pair (z .args .s) _ _ _ _ _ (z .pre .1 .0) (z .pre .1 .1) (z .pre .0 .1) (z .pre .1 .2) _ _ (lead (l .before .before) _ (l .lead .given .1))
     _ _ _ (head m) (moved (c .before))
 
@@ -126,7 +148,8 @@ locate-pair-spec =
     enum-known-head
     returns-2
     sub-rest-len
-    add-t16
-    sub-t20
-    add-t21
+    is-split-requires
+    add-first
+    sub-second
+    add-rest-at
     returns-3)

@@ -19,12 +19,12 @@ form c r e = ap splitOf (sym (c .before .id-to-bytes .ensures)) ∙ sym (c .spli
 short : (c : tie.After-known-told) → c .before .n .given .0 .0 + 1 ≤ c .before .before .before .before .before .before .args .len
 short c =
     let z = c .before .before .before .before .before .before in
-    short-within _ _ _ (z .pre) _ (form (c .before .before .before) _ (c .before .n .given .1))
+    short-within _ _ _ (z .pre .2) _ (form (c .before .before .before) _ (c .before .n .given .1))
 
 long : (c : tie.After-known-told2) → c .before .end .given .0 .0 + 2 ≤ c .before .before .before .before .before .before .args .len
 long c =
     let z = c .before .before .before .before .before .before in
-    long-within _ _ _ (z .pre) _ _ (form (c .before .before .before) _ (c .before .end .given .1))
+    long-within _ _ _ (z .pre .2) _ _ (form (c .before .before .before) _ (c .before .end .given .1))
 
 id-to-bytes-requires : tie.Need-id-to-bytes-requires
 id-to-bytes-requires c κs = search needs
@@ -66,13 +66,19 @@ enum-told : tie.Need-enum-told
 enum-told c = search needs
 
 returns : tie.Need-returns
-returns c = λ s lists there fits. located-short s _ lists _ _ there fits _ (form (c .before .before .before) _ (c .before .n .given .1))
+returns c =
+    let z = c .before .before .before .before .before .before in
+    λ s lists there fits. located-short s _ lists _ _ _ (z .pre .0) there fits (z .pre .1) _ (form (c .before .before .before) _ (c .before .n .given .1))
 
 returns-2 : tie.Need-returns-2
-returns-2 c = λ s lists there fits. located-long s _ lists _ _ there fits _ _ (form (c .before .before .before) _ (c .before .end .given .1))
+returns-2 c =
+    let z = c .before .before .before .before .before .before in
+    λ s lists there fits. located-long s _ lists _ _ _ (z .pre .0) there fits (z .pre .1) _ _ (form (c .before .before .before) _ (c .before .end .given .1))
 
 returns-3 : tie.Need-returns-3
-returns-3 c = λ s lists there fits. located-cut s _ lists _ _ there fits (form (c .before .before) _ (c .enum-told .given .1))
+returns-3 c =
+    let z = c .before .before .before .before .before in
+    λ s lists there fits. located-cut s _ lists _ _ _ (z .pre .0) there fits (z .pre .1) (form (c .before .before) _ (c .enum-told .given .1))
 
 pub locate-tagged-spec : {M : Type 1} → statement M
 locate-tagged-spec =

@@ -80,11 +80,11 @@ product c =
     let z = c .before .before .before .before .before .before in
     number-fits ((c .before .before .before .word-at .result - 1) / 16) (z .block-size .result) (omega (arith, c .if4 .left)) (omega arith)
 
-mul-t13 : tie.Need-mul-t13
-mul-t13 c = omega (arith, product c)
+mul-start : tie.Need-mul-start
+mul-start c = omega (arith, product c)
 
-add-t14 : tie.Need-add-t14
-add-t14 c =
+add-local : tie.Need-add-local
+add-local c =
     let z = c .before .before .before .before .before .before in
     let p : 0 < z .block-size .result = omega arith in
     omega (arith, product c, mod-lt (z .before .before .args .number .0) p)
@@ -114,6 +114,6 @@ global-to-local-spec =
     returns-3
     returns-4
     rem-rest
-    mul-t13
-    add-t14
+    mul-start
+    add-local
     returns-5)

@@ -41,8 +41,8 @@ returns c = sym (ap (heldBy _) (word (c .before)) ∙ held-none _ _ (c .if1 .tak
 returns-2 : tie.Need-returns-2
 returns-2 c = sym (ap (heldBy _) (word (c .before .before .before)) ∙ held-past _ _ (c .if2 .taken))
 
-sub-t6 : tie.Need-sub-t6
-sub-t6 c = search needs
+sub-g : tie.Need-sub-g
+sub-g c = search needs
 
 returns-3 : tie.Need-returns-3
 returns-3 c = sym (ap (heldBy _) (word (c .before .before .before)) ∙ held-there _ _ (c .before .before .if1 .left) (c .if2 .left))
@@ -50,4 +50,4 @@ returns-3 c = sym (ap (heldBy _) (word (c .before .before .before)) ∙ held-the
 pub held-in-spec : {M : Type 1} → statement M
 held-in-spec =
     tie.close
-    (tie.spec blocks-at-requires add-word-at word-at-requires returns returns-2 sub-t6 returns-3)
+    (tie.spec blocks-at-requires add-word-at word-at-requires returns returns-2 sub-g returns-3)

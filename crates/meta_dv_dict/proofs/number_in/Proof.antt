@@ -16,11 +16,11 @@ rem-rest c = search needs
 product : (c : tie.After-struct-known) → c .before .before .args .g * c .before .block-size .result ≤ 68702699520
 product c = number-fits (c .before .before .args .g) (c .before .block-size .result) (omega (arith, c .before .before .pre .0 .b .1)) (omega arith)
 
-mul-t6 : tie.Need-mul-t6
-mul-t6 c = omega (arith, product c)
+mul-start : tie.Need-mul-start
+mul-start c = omega (arith, product c)
 
-add-t7 : tie.Need-add-t7
-add-t7 c =
+add-number : tie.Need-add-number
+add-number c =
     let p : 0 < c .before .block-size .result = omega arith in
     omega (arith, product c, mod-lt (c .before .before .args .local .0) p)
 
@@ -28,4 +28,4 @@ returns : tie.Need-returns
 returns c = rw (c .before .block-size .ensures .0)
 
 pub number-in-spec : {M : Type 1} → statement M
-number-in-spec = tie.close (tie.spec block-size-requires rem-rest mul-t6 add-t7 returns)
+number-in-spec = tie.close (tie.spec block-size-requires rem-rest mul-start add-number returns)

@@ -9,6 +9,13 @@ use Rattle.meta_dv_dict.proofs.Answers.{written-is}
 use Rattle.meta_dv_dict.proofs.take_block.Statement.{statement}
 use Rattle.meta_dv_dict.proofs.take_block.Tie as tie
 
+-- The function's start, from where the kind's table was found; and that place, from where the table of owners was.
+abbrev start : tie.After-blocks-at → tie.Start
+start c = c .before .before .before .before
+
+abbrev first-table : tie.After-blocks-at2 → tie.After-blocks-at
+first-table c = c .before .before .before .before .before
+
 low : (c : tie.After-block-size) → c .before .before .args .local .0 / c .block-size .result < c .before .before .args .s .b
 low c = rw (c .block-size .ensures .0) (c .before .before .pre .3)
 
@@ -22,11 +29,11 @@ blocks-at-requires : tie.Need-blocks-at-requires
 blocks-at-requires c κs = search needs
 
 local-inside : (c : tie.After-blocks-at)
-    → 8 * (c .blocks-at .result + c .before .before .before .before .args .local .0 / c .before .before .block-size .result) + 8
-    ≤ length (c .before .before .before .before .args .lists .now)
+    → 8 * (c .blocks-at .result + start c .args .local .0 / c .before .before .block-size .result) + 8
+    ≤ length (start c .args .lists .now)
 local-inside c =
     let z = c .before .before in
-    let a = z .before .before in
+    let a = start c in
     let l = a .args .local .0 / z .block-size .result in
     omega (arith, c .blocks-at .ensures, block-fits (a .args .s) (localAt (a .args .s) (a .args .k) l) _ (a .pre .1) (local-word (a .args .s) (a .args .k) l (a .pre .2) (low z)))
 
@@ -43,10 +50,10 @@ blocks-at-requires-2 : tie.Need-blocks-at-requires-2
 blocks-at-requires-2 c κs = search needs
 
 global-inside : (c : tie.After-blocks-at2)
-    → 8 * (c .blocks-at2 .result + c .before .before .before .before .before .before .before .before .before .args .g) + 8
-    ≤ length (c .before .before .before .before .before .before .before .before .before .args .lists .now)
+    → 8 * (c .blocks-at2 .result + start (first-table c) .args .g) + 8
+    ≤ length (start (first-table c) .args .lists .now)
 global-inside c =
-    let a = c .before .before .before .before .before .before .before .before .before in
+    let a = start (first-table c) in
     omega (arith, c .blocks-at2 .ensures, block-fits (a .args .s) (globalAt (a .args .s) (a .args .g)) _ (a .pre .1) (global-word (a .args .s) (a .args .g) (a .pre .4)))
 
 add-put-word-3 : tie.Need-add-put-word-3

@@ -13,7 +13,7 @@ use Rattle.refusals.specs.Checked.{checkedBy}
 use Rattle.model.specs.Names.{Name, entered}
 use Rattle.model.specs.Kinds.{row}
 use Rattle.model.specs.Steps.{textRefusal}
-use Rattle.names.proofs.Rows.{needs-tag, empty-by-length}
+use Rattle.names.proofs.Rows.{empty-by-length}
 use Rattle.names.proofs.check_text.Statement.{statement}
 use Rattle.names.proofs.check_text.Tie as tie
 
@@ -24,10 +24,9 @@ module _ (a : Name) where
   not-text e = rw e
 
   module _ (e : (isText (a .first) && isText (a .second)) ≡ true) where
-    no-tag : a .kind ≡ 2 → length (a .second) ≡ 0 → textRefusal a ≡ some NoTag
+    no-tag : row (a .kind) .needsTag ≡ true → length (a .second) ≡ 0 → textRefusal a ≡ some NoTag
     unfolding textRefusal
-    no-tag q n =
-        let u : row (a .kind) .needsTag ≡ true = needs-tag (a .kind) ∙ eq-eqb _ _ q in
+    no-tag u n =
         let v : isEmpty (a .second) ≡ true = sym (empty-by-length (a .second)) ∙ eq-eqb _ _ n in
         rw (e, u, v)
 
@@ -38,11 +37,9 @@ module _ (a : Name) where
         let w : (row (a .kind) .needsTag && isEmpty (a .second)) ≡ false = rw v (and-false (row (a .kind) .needsTag)) in
         rw (e, w)
 
-    tag-free : (a .kind ≡ 2 → ⊥) → textRefusal a ≡ none
+    tag-free : row (a .kind) .needsTag ≡ false → textRefusal a ≡ none
     unfolding textRefusal
-    tag-free q =
-        let u : row (a .kind) .needsTag ≡ false = needs-tag (a .kind) ∙ ne-eqb _ _ q in
-        rw (e, u)
+    tag-free u = rw (e, u)
 
 -- What is known behind the first test.
 both : (c : tie.Else1) → let z = c .before .before .before .before .args in (isText (z .first .now) && isText (z .second .now)) ≡ true
@@ -57,24 +54,29 @@ returns c =
     let a = entered (z .kind) (z .first .now) (z .second .now) in
     ap checkedBy (sym (not-text a (sym (c .before .are-text .ensures) ∙ not-true _ (c .if1 .taken))))
 
+row-of-requires : tie.Need-row-of-requires
+row-of-requires c κs = search needs
+
 returns-2 : tie.Need-returns-2
 returns-2 c =
-    let f = c .before .before in
+    let r = c .before .before in
+    let f = r .before in
     let z = f .before .before .before .before .args in
     let a = entered (z .kind) (z .first .now) (z .second .now) in
-    ap checkedBy (sym (no-tag a (both f) (c .before .if2 .taken) (eqb-true _ _ (c .if3 .taken))))
+    ap checkedBy (sym (no-tag a (both f) (sym (r .row-of .ensures .needsTag) ∙ c .before .if2 .taken) (eqb-true _ _ (c .if3 .taken))))
 
 returns-3 : tie.Need-returns-3
 returns-3 c =
-    let f = c .before in
+    let r = c .before in
+    let f = r .before in
     let z = f .before .before .before .before .args in
     let a = entered (z .kind) (z .first .now) (z .second .now) in
     ap checkedBy
     (sym
     (⊎-elim
     (λ x. tag-here a (both f) (eqb-false _ _ (x .1 .left)))
-    (λ x. tag-free a (both f) (x .left))
+    (λ x. tag-free a (both f) (sym (r .row-of .ensures .needsTag) ∙ x .left))
     (c .if2 .came)))
 
 pub check-text-spec : {M : Type 1} → statement M
-check-text-spec = tie.close (tie.spec are-text-requires returns returns-2 returns-3)
+check-text-spec = tie.close (tie.spec are-text-requires returns row-of-requires returns-2 returns-3)

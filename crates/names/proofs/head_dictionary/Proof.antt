@@ -1,19 +1,19 @@
--- A kind with heads that is not the first is the last. Assumes nothing.
-use mathlib.Core.Path.{_≡_}
-use native.Mathlib.Omega.{arith}
+-- By the row. Assumes nothing.
+use Prim.Native.Nat.{ℕ, _<_}
+use mathlib.Core.Path.{sym, subst}
+use Rattle.layout.specs.Sizes.{dictionaries}
+use Rattle.model.proofs.Table.{head-below}
 use borrow.Author.Needs.{needs}
-use Rattle.names.proofs.Rows.{paired-last}
 use Rattle.names.proofs.head_dictionary.Statement.{statement}
 use Rattle.names.proofs.head_dictionary.Tie as tie
 
-returns : tie.Need-returns
-returns c = search needs
+row-of-requires : tie.Need-row-of-requires
+row-of-requires c κs = search needs
 
-returns-2 : tie.Need-returns-2
-returns-2 c =
-    let z = c .before in
-    let e : z .args .kind ≡ 3 = paired-last (z .args .kind) (z .pre .0) (z .pre .1) (c .if1 .left) in
-    (rw e, omega arith)
+returns : tie.Need-returns
+returns c =
+    let e = c .row-of .ensures .headsAt in
+    (e, subst (λ (d : ℕ). d < dictionaries) (sym e) (head-below (c .before .args .kind)))
 
 pub head-dictionary-spec : {M : Type 1} → statement M
-head-dictionary-spec = tie.close (tie.spec returns returns-2)
+head-dictionary-spec = tie.close (tie.spec row-of-requires returns)

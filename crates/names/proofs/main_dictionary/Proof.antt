@@ -1,23 +1,19 @@
--- Each kind's row, by its number. Assumes nothing.
-use mathlib.Core.Path.{_≡_}
-use native.Mathlib.Omega.{arith}
+-- By the row. Assumes nothing.
+use Prim.Native.Nat.{ℕ, _<_}
+use mathlib.Core.Path.{sym, subst}
+use Rattle.layout.specs.Sizes.{dictionaries}
+use Rattle.model.proofs.Table.{main-below}
 use borrow.Author.Needs.{needs}
 use Rattle.names.proofs.main_dictionary.Statement.{statement}
 use Rattle.names.proofs.main_dictionary.Tie as tie
 
+row-of-requires : tie.Need-row-of-requires
+row-of-requires c κs = search needs
+
 returns : tie.Need-returns
-returns c = search needs
-
-returns-2 : tie.Need-returns-2
-returns-2 c = search needs
-
-returns-3 : tie.Need-returns-3
-returns-3 c = search needs
-
-returns-4 : tie.Need-returns-4
-returns-4 c =
-    let e : c .before .before .before .args .kind ≡ 3 = omega arith in
-    (rw e, omega arith)
+returns c =
+    let e = c .row-of .ensures .mainAt in
+    (e, subst (λ (d : ℕ). d < dictionaries) (sym e) (main-below (c .before .args .kind)))
 
 pub main-dictionary-spec : {M : Type 1} → statement M
-main-dictionary-spec = tie.close (tie.spec returns returns-2 returns-3 returns-4)
+main-dictionary-spec = tie.close (tie.spec row-of-requires returns)

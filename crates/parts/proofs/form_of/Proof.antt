@@ -10,15 +10,15 @@ use Rattle.slices.proofs.Tests.{Split, split}
 use Rattle.parts.proofs.form_of.Statement.{statement}
 use Rattle.parts.proofs.form_of.Tie as tie
 
-over : (n : ℕ) → ltb 127 n ≡ not (leb n 127)
-over n = go (split (leb n 127))
+over : (m n : ℕ) → ltb m n ≡ not (leb n m)
+over m n = go (split (leb n m))
   where
-    go : Split (leb n 127) → ltb 127 n ≡ not (leb n 127)
-    go (inl p) = rw (p, le-ltb 127 n (leb-true n 127 p))
-    go (inr p) = rw (p, lt-ltb 127 n (leb-false n 127 p))
+    go : Split (leb n m) → ltb m n ≡ not (leb n m)
+    go (inl p) = rw (p, le-ltb m n (leb-true n m p))
+    go (inr p) = rw (p, lt-ltb m n (leb-false n m p))
 
 returns : tie.Need-returns
-returns c = λ i. record { long = over (length (c .args .tag .now)) i }
+returns c = λ i. record { long = over 127 (length (c .args .tag .now)) i }
 
 pub form-of-spec : {M : Type 1} → statement M
 form-of-spec = tie.close (tie.spec returns)

@@ -1,33 +1,31 @@
 -- No comparison, one or two. Assumes nothing.
-use mathlib.Core.Path.{_≡_, refl, sym, _∙_}
-use Prim.Native.Nat.{ℕ, _+_}
-use mathlib.Core.Bool.{Bool, true, false, _&&_}
+use mathlib.Core.Path.{_≡_, ap}
+use Prim.Native.Nat.{ℕ, suc, _+_, _≤_}
+use mathlib.Core.Bool.{Bool, _&&_}
 use mathlib.Core.List.{[], _∷_}
+use native.Mathlib.Numerals.{add-one}
+use native.Mathlib.Omega.{arith}
 use lib.Dec.{eqb}
-use lib.ListN.{take, drop}
-use lib.Seq.{drop-drop}
+use lib.ListN.{length, getD, take, drop}
+use lib.Seq.{drop-cons}
+use borrow.Author.Tests.{eq-eqb, ne-eqb}
 use borrow.Author.Needs.{needs}
 use Rattle.slices.specs.Bytes.{Bytes, sameBytes}
+use Rattle.parts.proofs.Laws.{and-true, same-one}
 use Rattle.parts.proofs.has_stored.Statement.{statement}
 use Rattle.parts.proofs.has_stored.Tie as tie
 
--- The first of two bytes stands there, and the second after it.
-both : (a b : ℕ) (d : Bytes) → sameBytes (a ∷ b ∷ []) (take 2 d) ≡ (sameBytes (a ∷ []) (take 1 d) && sameBytes (b ∷ []) (take 1 (drop 1 d)))
-both a b [] = refl
-both a b (x ∷ []) = short (eqb a x)
-  where
-    short : (t : Bool) → (t && false) ≡ ((t && true) && false)
-    short true = refl
-    short false = refl
-both a b (x ∷ y ∷ d) = whole (eqb a x) (eqb b y)
-  where
-    whole : (t u : Bool) → (t && (u && true)) ≡ ((t && true) && (u && true))
-    whole true u = refl
-    whole false u = refl
+two : (a b at : ℕ) (s : Bytes) → at + 2 ≤ length s → (eqb a (getD s at 0) && eqb b (getD s (at + 1) 0)) ≡ sameBytes (a ∷ b ∷ []) (take 2 (drop at s))
+two a b at s l =
+    rw (add-one, drop-cons s at 0 (omega arith), drop-cons s (suc at) 0 (omega arith))
+    (ap (λ (t : Bool). eqb a (getD s at 0) && t) (and-true (eqb b (getD s (suc at) 0))))
 
-two : (a b at : ℕ) (s : Bytes) (t : Bool) → t ≡ sameBytes (a ∷ []) (take 1 (drop at s))
-    → (t && sameBytes (b ∷ []) (take 1 (drop (at + 1) s))) ≡ sameBytes (a ∷ b ∷ []) (take 2 (drop at s))
-two a b at s t e = rw (e, ← drop-drop 1 at s) (sym (both a b (drop at s)))
+-- How much is stored from `at` on, in each arm.
+room-one : (c : tie.After-shared-slice-known) → let z = c .before .before .before .before .args in z .at + 1 ≤ length (z .stored .now)
+room-one c = rw (c .before .before .u .given .1) at (c .before .before .before .before .pre)
+
+room-two : (c : tie.After-shared-slice-known2) → let z = c .before .before .before .before .args in z .at + 2 ≤ length (z .stored .now)
+room-two c = rw (c .before .before .u2 .given .1) at (c .before .before .before .before .pre)
 
 enum-told : tie.Need-enum-told
 enum-told c = search needs
@@ -35,43 +33,42 @@ enum-told c = search needs
 enum-known-u : tie.Need-enum-known-u
 enum-known-u c = search needs
 
-has-byte-requires : tie.Need-has-byte-requires
-has-byte-requires c κs = search needs
+shared-slice-read-result : tie.Need-shared-slice-read-result
+shared-slice-read-result c = omega (arith, room-one c)
 
 enum-known-u-2 : tie.Need-enum-known-u-2
 enum-known-u-2 c = search needs
 
-has-byte-requires-2 : tie.Need-has-byte-requires-2
-has-byte-requires-2 c κs = search needs
+shared-slice-read-if1 : tie.Need-shared-slice-read-if1
+shared-slice-read-if1 c = omega (arith, room-two c)
 
-add-has-byte : tie.Need-add-has-byte
-add-has-byte c = search needs
+add-result : tie.Need-add-result
+add-result c = search needs
 
-has-byte-requires-3 : tie.Need-has-byte-requires-3
-has-byte-requires-3 c κs = search needs
+shared-slice-read-result-2 : tie.Need-shared-slice-read-result-2
+shared-slice-read-result-2 c = omega (arith, room-two (c .before .before))
 
 returns : tie.Need-returns
 returns c = rw (c .enum-told .given .1)
 
 returns-2 : tie.Need-returns-2
-returns-2 c = rw (c .before .before .u .given .1) (c .has-byte .ensures)
+returns-2 c =
+    let z = c .before .before .before .before .args in
+    rw (c .before .before .u .given .1) (same-one _ (z .at) (z .stored .now) (omega (arith, room-one c)))
 
 returns-3 : tie.Need-returns-3
 returns-3 c =
     let p = c .before .before in
     let u = p .before .before .u2 .given in
-    let z = c .before .before .before .before .before .before .before .args in
-    rw (u .1)
-    (c .has-byte3 .ensures
-    ∙ (rw (c .before .if1 .taken) at (two (u .0 .0) (u .0 .1 .0) (z .at) (z .stored .now) (p .has-byte2 .result) (p .has-byte2 .ensures))))
+    let z = p .before .before .before .before .args in
+    rw (u .1) (rw (eq-eqb _ _ (c .before .if1 .taken)) at (two (u .0 .0) (u .0 .1 .0) (z .at) (z .stored .now) (room-two p)))
 
 returns-4 : tie.Need-returns-4
 returns-4 c =
     let p = c .before in
     let u = p .before .before .u2 .given in
-    let z = c .before .before .before .before .before .before .args in
-    rw (u .1)
-    (rw (c .if1 .left) at (two (u .0 .0) (u .0 .1 .0) (z .at) (z .stored .now) (p .has-byte2 .result) (p .has-byte2 .ensures)))
+    let z = p .before .before .before .before .args in
+    rw (u .1) (rw (ne-eqb _ _ (c .if1 .left)) at (two (u .0 .0) (u .0 .1 .0) (z .at) (z .stored .now) (room-two p)))
 
 pub has-stored-spec : {M : Type 1} → statement M
 has-stored-spec =
@@ -79,11 +76,11 @@ has-stored-spec =
     (tie.spec
     enum-told
     enum-known-u
-    has-byte-requires
+    shared-slice-read-result
     enum-known-u-2
-    has-byte-requires-2
-    add-has-byte
-    has-byte-requires-3
+    shared-slice-read-if1
+    add-result
+    shared-slice-read-result-2
     returns
     returns-2
     returns-3

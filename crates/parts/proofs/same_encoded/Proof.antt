@@ -1,19 +1,16 @@
--- The loop's invariant: what is left, and what is left at `at`, compare as all of both. Assumes nothing.
-use mathlib.Core.Path.{_≡_, refl, sym, _∙_}
-use Prim.Native.Nat.{ℕ, _+_, _≤_, _<_, _-_}
+-- The loop's invariant: what is left, and what is left at `at`, are equally long, and compare as all of both. Assumes nothing.
+use mathlib.Core.Path.{_≡_, refl, sym, _∙_, ap}
+use Prim.Native.Nat.{ℕ, _+_, _≤_, _-_}
+use mathlib.Core.Bool.{_&&_}
+use mathlib.Core.List.{_++_}
 use native.Mathlib.Omega.{arith}
-use mathlib.Core.Logic.{inl, inr}
-use mathlib.Core.Bool.{true, _&&_}
-use mathlib.Core.List.{[], _++_, append-nil}
-use lib.Dec.{eqb}
-use lib.ListN.{length, take, drop, length-drop, drop-of-length-le}
-use lib.Seq.{drop-cons, drop-drop}
-use borrow.Author.Tests.{eqb-true, eqb-false, not-true, not-false}
+use lib.ListN.{length, take, drop, length-append, length-drop}
+use lib.Seq.{take-all, drop-drop}
+use borrow.Author.Tests.{not-true, not-false}
 use borrow.Author.Needs.{needs}
 use Rattle.slices.specs.Bytes.{Bytes, sameBytes}
-use Rattle.slices.proofs.Tests.{Split, split}
 use Rattle.parts.specs.Parts.{encoded, storedBytes}
-use Rattle.parts.proofs.Laws.{encoded-more, encoded-end, same-append, same-front}
+use Rattle.parts.proofs.Laws.{encoded-more, encoded-end, same-append, same-length}
 use Rattle.parts.proofs.same_encoded.Statement.{statement}
 use Rattle.parts.proofs.same_encoded.Tie as tie
 
@@ -22,79 +19,66 @@ more : (x y : Bytes) {z : Bytes} (at : ℕ) (t : Bytes) → z ≡ x ++ y
     → sameBytes z (drop at t) ≡ (sameBytes x (take (length x) (drop at t)) && sameBytes y (drop (at + length x) t))
 more x y at t e = rw (e, ← drop-drop (length x) at t) (same-append x y (drop at t))
 
--- What stands at `at` ends within what is stored.
-within : (x t : Bytes) (at : ℕ) → at ≤ length t → sameBytes x (take (length x) (drop at t)) ≡ true → at + length x ≤ length t
-within x t at l e = omega (arith, simp length-drop at (same-front x (drop at t) e))
-
-end : (at : ℕ) (t : Bytes) → at ≤ length t → sameBytes [] (drop at t) ≡ eqb at (length t)
-end at t k = go (split (eqb at (length t)))
-  where
-    go : Split (eqb at (length t)) → sameBytes [] (drop at t) ≡ eqb at (length t)
-    go (inl p) = let h : length t ≤ at = omega (arith, eqb-true) in rw (p, drop-of-length-le t h)
-    go (inr p) = let h : at < length t = omega (arith, eqb-false) in rw (p, drop-cons t at 0)
-
 abbrev Inv-loop : tie.InvT-loop
 Inv-loop form s stored start at₀ i₀ at i =
-    (i ≤ length s) × (at ≤ length stored) × (sameBytes (encoded form (drop i s)) (drop at stored) ≡ sameBytes (encoded form s) (drop start stored))
+    (i ≤ length s)
+    × (at + length (encoded form (drop i s)) ≡ length stored)
+    × (sameBytes (encoded form (drop i s)) (drop at stored) ≡ sameBytes (encoded form s) (drop start stored))
 
 abbrev μ-loop : tie.MeasureT-loop
 μ-loop form s stored start at₀ i₀ at i = length s - i
 
 next : (c : tie.After-encode-byte Inv-loop μ-loop) →
     let l = c .before .before .before in
-    let z = l .before .before .before .args in
+    let z = l .before .before .before .before .before .args in
+    encoded (z .form) (drop (l .loop .i) (z .s .now)) ≡ storedBytes (c .encode-byte .result) ++ encoded (z .form) (drop (l .loop .i + 1) (z .s .now))
+next c =
+    let l = c .before .before .before in
+    let z = l .before .before .before .before .before .args in
+    encoded-more (z .form) (l .loop .i) (z .s .now) (storedBytes (c .encode-byte .result)) (omega arith) (c .encode-byte .ensures)
+
+compared : (c : tie.After-encode-byte Inv-loop μ-loop) →
+    let l = c .before .before .before in
+    let z = l .before .before .before .before .before .args in
     let x = storedBytes (c .encode-byte .result) in
     let t = z .stored .now in
     sameBytes (encoded (z .form) (drop (l .loop .i) (z .s .now))) (drop (l .loop .at) t)
     ≡ (sameBytes x (take (length x) (drop (l .loop .at) t)) && sameBytes (encoded (z .form) (drop (l .loop .i + 1) (z .s .now))) (drop (l .loop .at + length x) t))
-next c =
+compared c =
     let l = c .before .before .before in
-    let z = l .before .before .before .args in
-    let x = storedBytes (c .encode-byte .result) in
-    more x _ (l .loop .at) (z .stored .now) (encoded-more (z .form) (l .loop .i) (z .s .now) x (omega arith) (c .encode-byte .ensures))
+    let z = l .before .before .before .before .before .args in
+    more (storedBytes (c .encode-byte .result)) (encoded (z .form) (drop (l .loop .i + 1) (z .s .now))) (l .loop .at) (z .stored .now) (next c)
+
+added : (c : tie.After-width Inv-loop μ-loop) →
+    let l = c .before .before .before .before .before .before in
+    let z = l .before .before .before .before .before .args in
+    l .loop .at + c .width .result + length (encoded (z .form) (drop (l .loop .i + 1) (z .s .now))) ≡ length (z .stored .now)
+added c =
+    let l = c .before .before .before .before .before .before in
+    omega (arith, simp length-append at (ap length (next (c .before .before .before))), c .width .ensures, l .loop .inv .1)
 
 last : (c : tie.After-encode-end Inv-loop μ-loop) →
     let l = c .before .before in
-    let z = l .before .before .before .args in
-    let x = storedBytes (c .encode-end .result) in
-    let t = z .stored .now in
-    sameBytes (encoded (z .form) (drop (l .loop .i) (z .s .now))) (drop (l .loop .at) t)
-    ≡ (sameBytes x (take (length x) (drop (l .loop .at) t)) && sameBytes [] (drop (l .loop .at + length x) t))
+    let z = l .before .before .before .before .before .args in
+    encoded (z .form) (drop (l .loop .i) (z .s .now)) ≡ storedBytes (c .encode-end .result)
 last c =
     let l = c .before .before in
-    let z = l .before .before .before .args in
-    let x = storedBytes (c .encode-end .result) in
-    more x [] (l .loop .at) (z .stored .now) (encoded-end (z .form) (l .loop .i) (z .s .now) x (omega arith) (c .encode-end .ensures) ∙ sym (append-nil x))
+    let z = l .before .before .before .before .before .args in
+    encoded-end (z .form) (l .loop .i) (z .s .now) (storedBytes (c .encode-end .result)) (omega arith) (c .encode-end .ensures)
 
--- Past each test what is compared stands at `at`.
-stood : (c : tie.After-width Inv-loop μ-loop) →
-    let l = c .before .before .before .before .before .before in
-    let x = storedBytes (c .before .before .before .encode-byte .result) in
-    sameBytes x (take (length x) (drop (l .loop .at) (l .before .before .before .args .stored .now))) ≡ true
-stood c = let p = c .before .before .has-stored in sym (p .ensures) ∙ not-false (p .result) (c .before .if1 .left)
+sub-if1 : tie.Need-sub-if1 Inv-loop μ-loop
+sub-if1 c = omega arith
 
-stood-2 : (c : tie.After-width2 Inv-loop μ-loop) →
-    let l = c .before .before .before .before .before in
-    let x = storedBytes (c .before .before .before .encode-end .result) in
-    sameBytes x (take (length x) (drop (l .loop .at) (l .before .before .before .args .stored .now))) ≡ true
-stood-2 c = let p = c .before .before .has-stored2 in sym (p .ensures) ∙ not-false (p .result) (c .before .if2 .left)
+measure-encoded-requires : tie.Need-measure-encoded-requires Inv-loop μ-loop
+measure-encoded-requires c κs = search needs
 
-ends : (c : tie.After-width Inv-loop μ-loop) →
-    let l = c .before .before .before .before .before .before in
-    l .loop .at + c .width .result ≤ length (l .before .before .before .args .stored .now)
-ends c =
-    let l = c .before .before .before .before .before .before in
-    omega (arith, within (storedBytes (c .before .before .before .encode-byte .result)) (l .before .before .before .args .stored .now) (l .loop .at) (l .loop .inv .1) (stood c), c .width .ensures)
-
-ends-2 : (c : tie.After-width2 Inv-loop μ-loop) →
-    let l = c .before .before .before .before .before in
-    l .loop .at + c .width2 .result ≤ length (l .before .before .before .args .stored .now)
-ends-2 c =
-    let l = c .before .before .before .before .before in
-    omega (arith, within (storedBytes (c .before .before .before .encode-end .result)) (l .before .before .before .args .stored .now) (l .loop .at) (l .loop .inv .1) (stood-2 c), c .width2 .ensures)
+returns : tie.Need-returns Inv-loop μ-loop
+returns c =
+    let z = c .before .before .before .before .args in
+    sym (same-length (encoded (z .form) (z .s .now)) (drop (z .start) (z .stored .now)) (simp length-drop (omega (arith, c .before .measure-encoded .ensures, c .if1 .taken))))
 
 loop-holds : tie.Need-loop-holds Inv-loop μ-loop
-loop-holds c = (omega arith, c .before .before .pre, refl)
+loop-holds c = (omega arith, omega (arith, c .before .measure-encoded .ensures, c .if1 .left, c .before .before .before .before .pre), refl)
 
 shared-slice-read-encode-byte : tie.Need-shared-slice-read-encode-byte Inv-loop μ-loop
 shared-slice-read-encode-byte c = omega arith
@@ -103,19 +87,19 @@ encode-byte-requires : tie.Need-encode-byte-requires Inv-loop μ-loop
 encode-byte-requires c κs = search needs
 
 has-stored-requires : tie.Need-has-stored-requires Inv-loop μ-loop
-has-stored-requires c κs = omega arith
+has-stored-requires c κs = let l = c .before .before .before in omega (arith, simp length-append at (ap length (next c)), l .loop .inv .1)
 
-returns : tie.Need-returns Inv-loop μ-loop
-returns c =
+returns-2 : tie.Need-returns-2 Inv-loop μ-loop
+returns-2 c =
     let l = c .before .before .before .before .before in
     let p = c .before .has-stored in
-    rw (sym (p .ensures) ∙ not-true (p .result) (c .if1 .taken)) at (sym (next (c .before .before)) ∙ l .loop .inv .2)
+    rw (sym (p .ensures) ∙ not-true (p .result) (c .if2 .taken)) at (sym (compared (c .before .before)) ∙ l .loop .inv .2)
 
 width-requires : tie.Need-width-requires Inv-loop μ-loop
 width-requires c κs = search needs
 
 add-at : tie.Need-add-at Inv-loop μ-loop
-add-at c = omega (arith, ends c)
+add-at c = let l = c .before .before .before .before .before .before in omega (arith, added c, l .before .before .before .before .before .good)
 
 add-i : tie.Need-add-i Inv-loop μ-loop
 add-i c = omega arith
@@ -126,32 +110,24 @@ loop-less c = omega arith
 loop-again : tie.Need-loop-again Inv-loop μ-loop
 loop-again c =
     let l = c .before .before .before .before .before .before in
-    (omega arith, ends c, rw (c .width .ensures) (rw (stood c) at (sym (next (c .before .before .before)) ∙ l .loop .inv .2)))
+    let p = c .before .before .has-stored in
+    let e = sym (p .ensures) ∙ not-false (p .result) (c .before .if2 .left) in
+    (omega arith, added c, rw (c .width .ensures) (rw e at (sym (compared (c .before .before .before)) ∙ l .loop .inv .2)))
 
 encode-end-requires : tie.Need-encode-end-requires Inv-loop μ-loop
 encode-end-requires c κs = search needs
 
 has-stored-requires-2 : tie.Need-has-stored-requires-2 Inv-loop μ-loop
-has-stored-requires-2 c κs = omega arith
-
-returns-2 : tie.Need-returns-2 Inv-loop μ-loop
-returns-2 c =
-    let l = c .before .before .before .before in
-    let p = c .before .has-stored2 in
-    rw (sym (p .ensures) ∙ not-true (p .result) (c .if2 .taken)) at (sym (last (c .before .before)) ∙ l .loop .inv .2)
-
-width-requires-2 : tie.Need-width-requires-2 Inv-loop μ-loop
-width-requires-2 c κs = search needs
-
-add-result : tie.Need-add-result Inv-loop μ-loop
-add-result c = omega (arith, ends-2 c)
+has-stored-requires-2 c κs = let l = c .before .before in omega (arith, ap length (last c), l .loop .inv .1)
 
 returns-3 : tie.Need-returns-3 Inv-loop μ-loop
 returns-3 c =
-    let l = c .before .before .before .before .before in
-    let t = l .before .before .before .args .stored .now in
-    rw (c .width2 .ensures)
-    (sym (end _ t (rw (c .width2 .ensures) at (ends-2 c))) ∙ (rw (stood-2 c) at (sym (last (c .before .before .before)) ∙ l .loop .inv .2)))
+    let l = c .before .before .before in
+    let t = l .before .before .before .before .before .args .stored .now in
+    let x = storedBytes (c .before .encode-end .result) in
+    let w : take (length x) (drop (l .loop .at) t) ≡ drop (l .loop .at) t =
+    take-all (length x) (drop (l .loop .at) t) (simp length-drop (omega (arith, ap length (last (c .before)), l .loop .inv .1))) in
+    c .has-stored2 .ensures ∙ ap (sameBytes x) w ∙ ap (λ (y : Bytes). sameBytes y (drop (l .loop .at) t)) (sym (last (c .before))) ∙ l .loop .inv .2
 
 pub same-encoded-spec : {M : Type 1} → statement M
 same-encoded-spec =
@@ -159,11 +135,14 @@ same-encoded-spec =
     (tie.spec
     Inv-loop
     μ-loop
+    sub-if1
+    measure-encoded-requires
+    returns
     loop-holds
     shared-slice-read-encode-byte
     encode-byte-requires
     has-stored-requires
-    returns
+    returns-2
     width-requires
     add-at
     add-i
@@ -171,7 +150,4 @@ same-encoded-spec =
     loop-again
     encode-end-requires
     has-stored-requires-2
-    returns-2
-    width-requires-2
-    add-result
     returns-3)

@@ -62,6 +62,13 @@ Inv-loop bytes first further size value₀ left₀ value left =
 abbrev μ-loop : tie.MeasureT-loop
 μ-loop bytes first further size value₀ left₀ value left = left
 
+-- The function's start, from where the first byte was read; and that place, from inside the loop.
+abbrev start : tie.After-wide Inv-loop μ-loop → tie.Start Inv-loop μ-loop
+start c = c .before .before .before .before
+
+abbrev first-read : tie.After-wide2 Inv-loop μ-loop → tie.After-wide Inv-loop μ-loop
+first-read c = c .before .before .before .before .before
+
 returns : tie.Need-returns Inv-loop μ-loop
 returns c = empty (c .before .before .args .bytes .now) (c .if1 .taken)
 
@@ -74,7 +81,7 @@ wide-requires c κs = search needs
 returns-2 : tie.Need-returns-2 Inv-loop μ-loop
 returns-2 c =
     let w = c .before .wide in
-    cut (c .before .before .before .before .before .args .bytes .now) (w .result) (w .ensures .0) (omega arith) (omega arith)
+    cut (start (c .before) .args .bytes .now) (w .result) (w .ensures .0) (omega arith) (omega arith)
 
 add-length : tie.Need-add-length Inv-loop μ-loop
 add-length c = omega arith
@@ -102,7 +109,7 @@ wide-requires-2 c κs = search needs
 add-value : tie.Need-add-value Inv-loop μ-loop
 add-value c =
     let l = c .before .before .before .loop in
-    omega (arith, low (c .before .before .before .before .before .wide .result / 64 - l .left) (l .value) (omega arith) (l .inv .1))
+    omega (arith, low (first-read c .wide .result / 64 - l .left) (l .value) (omega arith) (l .inv .1))
 
 sub-left : tie.Need-sub-left Inv-loop μ-loop
 sub-left c = omega arith
@@ -113,8 +120,8 @@ loop-less c = omega arith
 loop-again : tie.Need-loop-again Inv-loop μ-loop
 loop-again c =
     let l = c .before .before .before .loop in
-    let n = c .before .before .before .before .before .wide .result / 64 in
-    let s = c .before .before .before .before .before .before .before .before .before .args .bytes .now in
+    let n = first-read c .wide .result / 64 in
+    let s = start (first-read c) .args .bytes .now in
     let d : n - (l .left - 1) ≡ n - l .left + 1 = omega arith in
     let i : n + 1 - l .left ≡ 1 + (n - l .left) = omega arith in
     let b = c .wide2 .ensures .0 ∙ ap (λ (k : ℕ). getD s k 0) i in (
@@ -126,9 +133,10 @@ loop-again c =
 returns-3 : tie.Need-returns-3 Inv-loop μ-loop
 returns-3 c =
     let l = c .before .loop in
-    let w = c .before .before .before .wide in
+    let z = c .before .before .before in
+    let w = z .wide in
     let n = w .result / 64 in
-    whole (c .before .before .before .before .before .before .before .args .bytes .now) (w .result) n (n - l .left) (l .value)
+    whole (start z .args .bytes .now) (w .result) n (n - l .left) (l .value)
     (w .ensures .0) refl (omega arith) (omega arith) (l .inv .2)
 
 pub read-frequent-id-spec : {M : Type 1} → statement M

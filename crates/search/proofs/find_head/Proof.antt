@@ -1,10 +1,12 @@
 -- The search in the kind's dictionary of heads. Assumes nothing.
-use mathlib.Core.Path.{refl}
+use borrow.Author.Needs.{needs}
+use mathlib.Core.Path.{subst}
+use Prim.Native.Nat.{ℕ}
 use mathlib.Core.List.{[]}
 use native.Mathlib.Omega.{arith}
-use borrow.Author.Needs.{needs}
-use Rattle.search.proofs.Leads.{whole-hash, raw-short}
-use Rattle.search.proofs.Finds.{at-raw}
+use Rattle.slices.specs.Bytes.{Bytes}
+use Rattle.bytes_index.specs.Search.{Searched}
+use Rattle.search.proofs.Keys.{raw-is-key, raw-key}
 use Rattle.search.proofs.find_head.Statement.{statement}
 use Rattle.search.proofs.find_head.Tie as tie
 
@@ -17,12 +19,17 @@ head-dictionary-requires c κs = search needs
 bytes-to-id-requires : tie.Need-bytes-to-id-requires
 bytes-to-id-requires c κs =
     let z = c .before .before .before .before .before in
-    let e = whole-hash _ (z .args .h) (z .pre .2) in
-    let l = raw-short [] (omega arith) in
-    search needs
+    let L = z .pre .0 in (
+      record { ranged = L .ranged; pages-fit = L .pages-fit; lists-fit = L .lists-fit; known = c .head-dictionary .ensures .1 },
+      raw-is-key _ (z .args .h) [] (z .args .head .now) (z .pre .2) (omega arith),
+    )
 
 returns : tie.Need-returns
-returns c = at-raw _ _ _ _ _ _ _ _ (c .before .head-dictionary .ensures .0) refl (c .bytes-to-id .ensures)
+returns c =
+    let a = c .before .before .before .before .before .before .args in
+    subst (λ (d : ℕ). Searched (a .s) d (a .pages .now) (a .lists .now) (a .head .now) (c .bytes-to-id .result)) (c .before .head-dictionary .ensures .0)
+    (subst (λ (x : Bytes). Searched (a .s) (c .before .head-dictionary .result) (a .pages .now) (a .lists .now) x (c .bytes-to-id .result)) (raw-key [] (a .head .now)) (c .bytes-to-id .ensures))
 
 pub find-head-spec : {M : Type 1} → statement M
-find-head-spec = tie.close (tie.spec slice-aggregate-none head-dictionary-requires bytes-to-id-requires returns)
+find-head-spec =
+    tie.close (tie.spec slice-aggregate-none head-dictionary-requires bytes-to-id-requires returns)

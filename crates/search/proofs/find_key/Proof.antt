@@ -1,16 +1,20 @@
 -- Each answer of the search in the kind's main dictionary. Assumes nothing.
-use mathlib.Core.Path.{subst}
 use borrow.Author.Needs.{needs}
-use Rattle.bytes_index.specs.Search.{keyBytes, Searched}
-use Rattle.search.proofs.Finds.{key-at, key-free, key-bad}
+use Prim.Native.Nat.{ℕ}
+use mathlib.Core.Path.{_≡_, sym, subst}
+use Rattle.bytes_index.specs.declared.Probe.{Probe}
+use Rattle.bytes_index.specs.declared.Probe.the-variants.{At}
+use Rattle.bytes_index.specs.Search.{bytesIn, Searched}
+use Rattle.model.specs.Kinds.{row}
+use Rattle.model.proofs.Table.{main-below}
 use Rattle.search.proofs.find_key.Statement.{statement}
 use Rattle.search.proofs.find_key.Tie as tie
 
-main-dictionary-requires : tie.Need-main-dictionary-requires
-main-dictionary-requires c κs = search needs
-
 bytes-to-id-requires : tie.Need-bytes-to-id-requires
-bytes-to-id-requires c κs = search needs
+bytes-to-id-requires c κs =
+    let z = c .before .before .before .before in
+    let L = z .pre .0 in
+    (record { ranged = L .ranged; pages-fit = L .pages-fit; lists-fit = L .lists-fit; known = rw (z .pre .1) (main-below (z .args .k)) }, z .pre .2)
 
 enum-known-i : tie.Need-enum-known-i
 enum-known-i c = search needs
@@ -18,53 +22,44 @@ enum-known-i c = search needs
 entry-to-local-requires : tie.Need-entry-to-local-requires
 entry-to-local-requires c κs = search needs
 
+enum-known-place : tie.Need-enum-known-place
+enum-known-place c = search needs
+
 enum-told : tie.Need-enum-told
 enum-told c = search needs
 
-enum-told-2 : tie.Need-enum-told-2
-enum-told-2 c = search needs
+-- What the search says, by its answer.
+searched : (c : tie.After-bytes-to-id) (r : Probe) → c .bytes-to-id .result ≡ r →
+    let a = c .before .before .before .before .before .args in
+    Searched (a .s) (row (a .k) .mainAt) (a .pages .now) (a .lists .now) (bytesIn (a .key) (a .front .now) (a .rest .now)) r
+searched c r e =
+    let z = c .before .before .before .before .before in
+    let a = z .args in
+    let key = bytesIn (a .key) (a .front .now) (a .rest .now) in
+    subst (λ (d : ℕ). Searched (a .s) d (a .pages .now) (a .lists .now) key r) (z .pre .1) (subst (Searched (a .s) (a .key .d) (a .pages .now) (a .lists .now) key) e (c .bytes-to-id .ensures))
 
 returns : tie.Need-returns
 returns c =
     let b = c .before .before .before .before in
-    let z = b .before .before .before .before .before .before in
-    let a = z .args in
-    let d = b .before .main-dictionary in
-    let key = keyBytes (a .mode) (a .front .now) (a .rest .now) in
-    key-at (a .s) (a .pages .now) (a .lists .now) (a .k) (d .result) key (z .pre .0 .known) (d .ensures .0) (c .before .before .i .given .0 .0)
-    (c .entry-to-local .result) (c .entry-to-local .ensures)
-    (subst (Searched (a .s) (d .result) (a .pages .now) (a .lists .now) key) (c .before .before .i .given .1) (b .bytes-to-id .ensures))
+    let a = b .before .before .before .before .before .args in
+    subst (λ (i : ℕ). Searched (a .s) (row (a .k) .mainAt) (a .pages .now) (a .lists .now) (bytesIn (a .key) (a .front .now) (a .rest .now)) (At i)) (sym (c .entry-to-local .ensures))
+    (searched b _ (c .before .before .i .given .1))
 
 returns-2 : tie.Need-returns-2
-returns-2 c =
-    let b = c .before .before in
-    let z = b .before .before .before .before .before .before in
-    let a = z .args in
-    let d = b .before .main-dictionary in
-    let key = keyBytes (a .mode) (a .front .now) (a .rest .now) in
-    key-free (a .s) (a .pages .now) (a .lists .now) (a .k) (d .result) key (z .pre .0 .known) (d .ensures .0) _
-    (subst (Searched (a .s) (d .result) (a .pages .now) (a .lists .now) key) (c .enum-told .given .1) (b .bytes-to-id .ensures))
+returns-2 c = searched (c .before .before .before) _ (c .before .place .given .1)
 
 returns-3 : tie.Need-returns-3
-returns-3 c =
-    let b = c .before .before in
-    let z = b .before .before .before .before .before .before in
-    let a = z .args in
-    let d = b .before .main-dictionary in
-    let key = keyBytes (a .mode) (a .front .now) (a .rest .now) in
-    key-bad (a .s) (a .pages .now) (a .lists .now) (a .k) (d .result) key (z .pre .0 .known) (d .ensures .0)
-    (subst (Searched (a .s) (d .result) (a .pages .now) (a .lists .now) key) (c .enum-told2 .given .1) (b .bytes-to-id .ensures))
+returns-3 c = searched (c .before .before) _ (c .enum-told .given .1)
 
 pub find-key-spec : {M : Type 1} → statement M
 find-key-spec =
     tie.close
     (tie.spec
-    main-dictionary-requires
     bytes-to-id-requires
     enum-known-i
     entry-to-local-requires
+    enum-known-place
     enum-told
-    enum-told-2
     returns
     returns-2
     returns-3)

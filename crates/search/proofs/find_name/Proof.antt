@@ -1,123 +1,108 @@
--- Each kind's own search finds its legal names. Assumes nothing.
-use Prim.Native.Nat.{ℕ, _<_}
+-- A string is searched by its key, any other name by its head and its rest. Assumes nothing.
 use mathlib.Core.Path.{_≡_, refl, sym, subst, _∙_}
-use mathlib.Core.Bool.{true, false≢true}
+use mathlib.Core.Bool.{true, false, false≢true}
 use mathlib.Core.List.{[]}
-use native.Mathlib.Omega.{arith}
-use borrow.Author.Needs.{needs}
-use borrow.Author.Tests.{ltb-true}
+use borrow.Author.Tests.{not-true, not-false}
+use lib.ListN.{take}
 use lib.Seq.{length-take-le}
 use Rattle.slices.specs.Bytes.{Bytes}
-use Rattle.parts.specs.declared.Mode.the-variants.{Raw}
-use Rattle.parts.specs.Parts.{bytesOf}
-use Rattle.bytes_index.specs.Search.{keyBytes}
-use Rattle.utf8.specs.Text.{isText}
+use Rattle.layout.specs.Sizes.{limit}
 use Rattle.model.specs.Names.{Name, entered}
-use Rattle.model.specs.Kinds.{row}
+use Rattle.model.specs.Kinds.{Way, splits, whole, packs, pairs, hasHeads, headBy, row}
 use Rattle.model.proofs.Legal.{legal-shape}
-use Rattle.names.proofs.Rows.{paired, shape-second}
-use Rattle.names.proofs.Pairs.{is-pair}
-use Rattle.search.proofs.Leads.{whole-hash, scanned-hash, raw-short}
-use Rattle.search.proofs.Ascii.{ascii-text, pair-ascii}
-use Rattle.search.proofs.Finds.{same-names, by-key}
+use Rattle.names.specs.Given.{IsPair}
+use Rattle.names.proofs.Rows.{shape-second}
+use Rattle.names.proofs.Pairs.{is-pair, rest-short}
+use Rattle.search.specs.Found.{EndedBy}
+use Rattle.search.proofs.Ascii.{pair-ascii}
+use borrow.Author.Needs.{needs}
 use Rattle.search.proofs.find_name.Statement.{statement}
 use Rattle.search.proofs.find_name.Tie as tie
 
--- What the arguments of a string stand for.
-module _ (k : ℕ) (first second : Bytes) (a : Name) (m : a ≡ entered k first second) where
-  is-plain : k ≡ 1 → (a .kind ≡ 1) × (row 1 .rest a ≡ keyBytes Raw [] first)
-  unfolding bytesOf
-  is-plain z = rw (m, z) (refl, refl)
+has-heads-requires : tie.Need-has-heads-requires
+has-heads-requires c κs = search needs
 
-  is-tagged : k ≡ 2 → a ≡ entered 2 first second
-  is-tagged z = m ∙ rw z
-
--- Neither of the two kinds of strings: there are heads.
-has-heads : (c : tie.Else2) → row (c .before .before .before .before .before .before .args .kind) .paired ≡ true
-has-heads c =
+find-str-requires : tie.Need-find-str-requires
+find-str-requires c κs =
     let z = c .before .before .before .before .before .before in
-    paired (z .args .kind) (z .pre .0 .known) (c .before .if1 .left) (c .if2 .left)
+    (z .pre .0, z .pre .1, sym (c .before .has-heads .ensures) ∙ not-true _ (c .if1 .taken))
 
-slice-aggregate-none : tie.Need-slice-aggregate-none
-slice-aggregate-none c = search needs
-
-scan-requires : tie.Need-scan-requires
-scan-requires c κs = search needs
-
-find-key-requires : tie.Need-find-key-requires
-find-key-requires c κs =
-    let e = whole-hash _ (c .scan .result .h) (scanned-hash _ _ (c .scan .ensures .0)) in
-    let l = raw-short [] (omega arith) in
-    search needs
+-- The same, where the head has another name.
+headless : (w : Way) (a : Name) → hasHeads w ≡ false → headBy w a ≡ []
+headless splits a h = absurd (false≢true (sym h))
+headless whole a h = refl
+headless packs a h = refl
+headless pairs a h = absurd (false≢true (sym h))
 
 returns : tie.Need-returns
-unfolding isText
 returns c =
-    let k = c .before in
-    let x = k .before in
-    let t = x .before .before in
-    let z = t .before .before .before .before .before in
-    let a = z .args in (
-      by-key (a .s) (a .pages .now) (a .lists .now) _ 1 _ (k .find-key .result) refl
-          (λ x e m. is-plain (a .kind) (a .first .now) (a .second .now) x m (t .if1 .taken))
-          (k .find-key .ensures),
-      λ p. (
-        ascii-text (a .first .now) 0 (subst (λ (n : ℕ). n < 128) (x .scan .ensures .1) (ltb-true _ _ p)),
-        rw (shape-second (a .s) (entered (a .kind) (a .first .now) (a .second .now)) (z .pre .1) (omega (arith, t .if1 .taken))),
-      ),
-    )
-
-find-tagged-requires : tie.Need-find-tagged-requires
-find-tagged-requires c κs = let l = legal-shape _ _ (c .before .before .before .before .before .before .pre .1) .size in search needs
-
-returns-2 : tie.Need-returns-2
-returns-2 c =
-    let a = c .before .before .before .before .before .before .before .args in (
-      same-names (a .s) (a .pages .now) (a .lists .now) _ _ (c .find-tagged .result)
-          (λ x e m. is-tagged (a .kind) (a .first .now) (a .second .now) x m (c .before .if2 .taken))
-          (c .find-tagged .ensures),
-      λ p. absurd (false≢true p),
-    )
+    let z = c .before .before .before .before .before .before .before in
+    let a = z .args in
+    let n = entered (a .kind) (a .first .now) (a .second .now) in
+    let h = headless (row (a .kind) .way) n (sym (c .before .before .has-heads .ensures) ∙ not-true _ (c .before .if1 .taken)) in
+    (subst (λ (x : Bytes). EndedBy (a .s) (a .pages .now) (a .lists .now) (a .kind) x (row (a .kind) .rest n) (c .find-str .result) (c .find-str .result .found)) (sym h) (c .find-str .ensures .0), c .find-str .ensures .1)
 
 head-length-requires : tie.Need-head-length-requires
 head-length-requires c κs = search needs
 
 rest-behind-requires : tie.Need-rest-behind-requires
-rest-behind-requires c κs = c .head-length .ensures .1
+rest-behind-requires c κs = search needs
 
 slice-aggregate-find-pair : tie.Need-slice-aggregate-find-pair
 slice-aggregate-find-pair c = sym (length-take-le _ _ (c .before .before .head-length .ensures .1))
 
-find-pair-requires : tie.Need-find-pair-requires
-find-pair-requires c κs = let p = has-heads (c .before .before .before) in search needs
+subst2 : {x y u v : Bytes} (P : Bytes → Bytes → Type 0) → x ≡ u → y ≡ v → P x y → P u v
+subst2 P p q h = rw (p, q) at h
 
-returns-3 : tie.Need-returns-3
-returns-3 c =
+abbrev start : tie.After-head-length → tie.Start
+start c = c .before .before .before .before .before .before .before
+
+heads : (c : tie.After-head-length) → row (start c .args .kind) .paired ≡ true
+heads c = sym (c .before .before .has-heads .ensures) ∙ not-false _ (c .before .if1 .left)
+
+-- The name is this head and this rest.
+pair : (c : tie.After-rest-behind) →
+    let n = c .before in
+    let a = start n .args in
+    IsPair (a .kind) (take (n .head-length .result) (a .first .now)) (c .rest-behind .result .now) (entered (a .kind) (a .first .now) (a .second .now))
+pair c =
+    let n = c .before in
+    let z = start n in
+    let a = z .args in
+    is-pair (a .kind) (a .first .now) (a .second .now) _ (n .head-length .result) (z .pre .0 .known) (heads n) (n .head-length .ensures .0) (c .rest-behind .ensures) _ refl
+
+find-pair-requires : tie.Need-find-pair-requires
+find-pair-requires c κs =
+    let r = c .before in
+    let n = r .before in
+    let z = start n in
+    let a = z .args in
+    let l = legal-shape _ _ (z .pre .1) .size in
+    (z .pre .0, heads n, rest-short (a .kind) (a .first .now) (a .second .now) _ (n .head-length .result) (limit (a .s)) (r .rest-behind .ensures) l)
+
+returns-2 : tie.Need-returns-2
+returns-2 c =
     let r = c .before .before in
     let n = r .before in
-    let z = n .before .before .before .before .before .before .before in
-    let a = z .args in (
-      same-names (a .s) (a .pages .now) (a .lists .now) _ _ (c .find-pair .result .found)
-          (λ x e m. is-pair (a .kind) (a .first .now) (a .second .now) _ (n .head-length .result) (z .pre .0 .known) (has-heads (n .before)) (n .head-length .ensures .0) (r .rest-behind .ensures) x m)
-          (c .find-pair .ensures .0),
-      λ p.
+    let z = start n in
+    let a = z .args in
+    let p = pair r in (
+      subst2 (λ (x y : Bytes). EndedBy (a .s) (a .pages .now) (a .lists .now) (a .kind) x y (c .find-pair .result) (c .find-pair .result .found)) (sym (p .headed)) (sym (p .rested)) (c .find-pair .ensures .0),
+      λ q.
           pair-ascii (a .kind) (a .first .now) (a .second .now) _ (n .head-length .result) (n .head-length .ensures .0) (n .head-length .ensures .1) (r .rest-behind .ensures)
           (shape-second (a .s) (entered (a .kind) (a .first .now) (a .second .now)) (z .pre .1))
-          (c .find-pair .ensures .1 p),
+          (c .find-pair .ensures .1 q),
     )
 
 pub find-name-spec : {M : Type 1} → statement M
 find-name-spec =
     tie.close
     (tie.spec
-    slice-aggregate-none
-    scan-requires
-    find-key-requires
+    has-heads-requires
+    find-str-requires
     returns
-    find-tagged-requires
-    returns-2
     head-length-requires
     rest-behind-requires
     slice-aggregate-find-pair
     find-pair-requires
-    returns-3)
+    returns-2)

@@ -21,20 +21,20 @@ returns c = rw (c .before .before .state .given .1, eq-eqb _ 62 (c .if1 .taken))
 returns-2 : tie.Need-returns-2
 returns-2 c = rw (c .before .before .before .state .given .1, ne-eqb _ 62 (c .before .if1 .left), eq-eqb _ 92 (c .if2 .taken))
 
-add-t7 : tie.Need-add-t7
-add-t7 c = record { fits = whole (c .before .before .before) }
+add-more : tie.Need-add-more
+add-more c = record { fits = whole (c .before .before .before) }
 
 enum-known-state-2 : tie.Need-enum-known-state-2
 enum-known-state-2 c = search needs
 
-add-t9 : tie.Need-add-t9
-add-t9 c = record { fits = escape (c .before .before) }
+add-more-2 : tie.Need-add-more-2
+add-more-2 c = record { fits = escape (c .before .before) }
 
 returns-3 : tie.Need-returns-3
 returns-3 c = rw (c .before .before .state2 .given .1, eq-eqb _ 92 (c .if3 .taken))
 
-add-t10 : tie.Need-add-t10
-add-t10 c = record { fits = escape (c .before .before .before) }
+add-more-3 : tie.Need-add-more-3
+add-more-3 c = record { fits = escape (c .before .before .before) }
 
 returns-4 : tie.Need-returns-4
 returns-4 c = rw (c .before .before .before .state2 .given .1, ne-eqb _ 92 (c .before .if3 .left), eq-eqb _ 97 (c .if4 .taken))
@@ -58,11 +58,11 @@ scan-byte-spec =
     enum-known-state
     returns
     returns-2
-    add-t7
+    add-more
     enum-known-state-2
-    add-t9
+    add-more-2
     returns-3
-    add-t10
+    add-more-3
     returns-4
     enum-told
     returns-5

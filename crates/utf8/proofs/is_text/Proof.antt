@@ -29,14 +29,24 @@ Inv-loop s i₀ i = (i ≤ length s) × (textFrom charStart (drop i s) ≡ isTex
 abbrev μ-loop : tie.MeasureT-loop
 μ-loop s i₀ i = length s - i
 
+-- The function's start, from a turn of the loop; the turn, from behind its characters of three bytes; and that place, from behind one more character.
+abbrev start : tie.At-loop Inv-loop μ-loop → tie.Start Inv-loop μ-loop
+start c = c .before .before .before .before
+
+abbrev turn : tie.After-pass-threes Inv-loop μ-loop → tie.At-loop Inv-loop μ-loop
+turn c = c .before .before .before
+
+abbrev threes : tie.After-known-told Inv-loop μ-loop → tie.After-pass-threes Inv-loop μ-loop
+threes c = c .before .before .before .before .before
+
 -- The characters of two and of three bytes from i to j.
 ran : (c : tie.After-pass-threes Inv-loop μ-loop)
-    → Passed (c .before .before .before .before .before .before .before .args .s .now) (c .before .before .before .loop .i) (c .pass-threes .result)
+    → Passed (start (turn c) .args .s .now) (turn c .loop .i) (c .pass-threes .result)
 ran c = pass-on _ _ _ _ (c .before .pass-twos .ensures) (c .pass-threes .ensures)
 
 -- The character at i ends at k.
 ends : (c : tie.After-known-told Inv-loop μ-loop)
-    → Ends (c .before .before .before .before .before .before .before .before .before .before .before .before .args .s .now) (c .before .before .before .before .before .before .before .before .loop .i) (At (c .before .k .given .0 .0))
+    → Ends (start (turn (threes c)) .args .s .now) (turn (threes c) .loop .i) (At (c .before .k .given .0 .0))
 ends c = subst (Ends _ _) (c .before .k .given .1) (c .before .before .before .char-end .ensures)
 
 empty : (s : Bytes) → length s ≡ 0 → true ≡ isText s
@@ -70,7 +80,7 @@ loop-again : tie.Need-loop-again Inv-loop μ-loop
 loop-again c =
     let a = c .before .before in
     let p = pass-on _ _ _ _ (ran a) (c .pass-ascii2 .ensures) in
-    (p .1, p .2 ∙ a .before .before .before .loop .inv .1)
+    (p .1, p .2 ∙ turn a .loop .inv .1)
 
 char-end-requires : tie.Need-char-end-requires Inv-loop μ-loop
 char-end-requires c κs = omega arith
@@ -95,7 +105,7 @@ loop-less-2 c = omega (arith, ends (c .before), c .pass-ascii3 .ensures)
 loop-again-2 : tie.Need-loop-again-2 Inv-loop μ-loop
 loop-again-2 c =
     let p = c .pass-ascii3 .ensures in
-    (p .1, p .2 ∙ ends (c .before) .2 ∙ c .before .before .before .before .before .before .before .before .before .loop .inv .1)
+    (p .1, p .2 ∙ ends (c .before) .2 ∙ turn (threes (c .before)) .loop .inv .1)
 
 returns-3 : tie.Need-returns-3 Inv-loop μ-loop
 returns-3 c =

@@ -22,8 +22,8 @@ returns-3 c =
     let a = c .before .before .before .args in
     rw (ne-eqb (a .left) 0 (omega arith), above (a .lo) (a .hi) (a .b) (omega arith))
 
-sub-t6 : tie.Need-sub-t6
-sub-t6 c = search needs
+sub-due : tie.Need-sub-due
+sub-due c = search needs
 
 returns-4 : tie.Need-returns-4
 returns-4 c =
@@ -31,4 +31,4 @@ returns-4 c =
     rw (ne-eqb (a .left) 0 (omega arith), inside (a .lo) (a .hi) (a .b) (omega arith))
 
 pub next-spec : {M : Type 1} → statement M
-next-spec = tie.close (tie.spec first-requires returns returns-2 returns-3 sub-t6 returns-4)
+next-spec = tie.close (tie.spec first-requires returns returns-2 returns-3 sub-due returns-4)

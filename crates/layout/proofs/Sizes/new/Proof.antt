@@ -79,11 +79,16 @@ is-within-requires-5 c κs = search needs
 returns-5 : tie.Need-returns-5
 returns-5 c = bad-b _ (outside (c .if5 .taken) (c .before .is-within5 .ensures))
 
+-- Where the first two sizes were right.
+abbrev two-right : tie.Else5 → tie.Else2
+two-right c = c .before .before .before .before .before .before
+
 returns-6 : tie.Need-returns-6
 returns-6 c =
+    let d = two-right c in
     fit _
-    (inside (c .before .before .before .before .before .before .before .before .if1 .left) (c .before .before .before .before .before .before .before .before .before .is-within .ensures))
-    (inside (c .before .before .before .before .before .before .if2 .left) (c .before .before .before .before .before .before .before .is-within2 .ensures))
+    (inside (d .before .before .if1 .left) (d .before .before .before .is-within .ensures))
+    (inside (d .if2 .left) (d .before .is-within2 .ensures))
     (inside (c .before .before .before .before .if3 .left) (c .before .before .before .before .before .is-within3 .ensures))
     (inside (c .before .before .if4 .left) (c .before .before .before .is-within4 .ensures))
     (inside (c .if5 .left) (c .before .is-within5 .ensures))

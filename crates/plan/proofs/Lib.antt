@@ -1,0 +1,3 @@
+-- Laws of a plan: what its steps answer, and what it says as a whole.
+pub mod Steps
+pub mod Plans
