@@ -29,8 +29,8 @@ fn line(words: [&str; 13]) {
 
 pub fn print(title: &str, cells: &Cells) {
     println!("\n{title}\n");
-    line(["", "", "ours", "original", "original", "HashMap", "bare", "hash", "hash", "ours/orig.", "ours/orig.", "ours/", "bare/"]);
-    line(["operation", "kind", "", "sip", "fold", "+ Vec", "search", "alone", "in turn", "sip", "fold", "HashMap", "fold"]);
+    line(["", "", "ours", "original", "original", "HashMap", "bare", "hash", "hash", "ours/orig.", "ours/orig.", "ours/", "ours/"]);
+    line(["operation", "kind", "", "sip", "fold", "+ Vec", "search", "alone", "in turn", "sip", "fold", "HashMap", "bare"]);
     for (o, (_, operation)) in OPERATIONS.iter().enumerate() {
         for (k, kind) in KINDS.iter().chain(["all"].iter()).enumerate() {
             let of = |contender: usize| format!("{:.0}", cells[contender][o][k]);
@@ -41,7 +41,7 @@ pub fn print(title: &str, cells: &Cells) {
             let (bare, hash, turn) = (hashed(BARE), hashed(HASH), hashed(TURN));
             let (ours, original, fold, map) = (of(OURS), of(ORIGINAL), of(FOLD), of(MAP));
             let (a, b, c) = (over(ORIGINAL), over(FOLD), over(MAP));
-            let d = if *operation == "read" { "-".to_string() } else { ratio(BARE, FOLD) };
+            let d = if *operation == "read" { "-".to_string() } else { ratio(OURS, BARE) };
             line([operation, kind, &ours, &original, &fold, &map, &bare, &hash, &turn, &a, &b, &c, &d]);
         }
     }
