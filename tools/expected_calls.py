@@ -3,7 +3,7 @@
 
 Each call of the lists below becomes a line of `stdin`, and what must be printed for it goes to `stdout`. The heads of
 crates/calls/src/run.rt and script.rt say how the lines of `stdin` are written. The answers come from document 01's
-rules, as tools/rules.py has them.
+rules, as tools/rules.py has them; those of published vectors stand here as they were published.
 
   python3 tools/expected_calls.py stdin > crates/calls/stdin
   python3 tools/expected_calls.py stdout > crates/calls/stdout
@@ -11,7 +11,7 @@ rules, as tools/rules.py has them.
 import itertools
 import sys
 
-from rules import RANGES, Dictionary, Refused, check_name, refuse_if
+from rules import RANGES, Dictionary, Refused, check_name, check_pair, is_text, lead, pack, read_lead, refuse_if, split, unpack
 
 
 # ---- printing
@@ -192,7 +192,179 @@ class Memory:
         self.call("b", (self.pages, self.lists), "%x %x" % needed, "beyond:%s and%s\n" % (shown(pages), shown(lists)))
 
 
+# ---- the leaf rules
+
+def leaf(which, printed, first=b"", second=b"", value=0, length=0):
+    write("%s %x %x %s %s" % (which, value, length, written(first), written(second)), printed + "\n")
+
+
+def text_check(s, yes=None):
+    """`yes`: what a document says of these bytes."""
+    assert yes is None or is_text(s) == yes
+    leaf("T", "is_text%s: %d" % (part(s), is_text(s)), s)
+
+
+def split_iri(s):
+    leaf("S", "split_iri%s: %d" % (part(s), len(split(s)[0])), s)
+
+
+def hash_of(s, published):
+    leaf("H", "fnv%s: %08x" % (part(s), published), s)
+
+
+def read_fid(s):
+    try:
+        answer = "value %d length %d" % read_lead(s)
+    except Refused as why:
+        answer = "refused %s" % why
+    leaf("R", "read_fid%s: %s" % (shown(s), answer), s)
+
+
+def into_buffer(length, write):
+    """The answer, and what stands in the buffer of AA: `write` gives the words of the answer and the bytes, or refuses."""
+    buffer = b"\xAA" * length
+    try:
+        words, out = write()
+        refuse_if(length < len(out), 11)
+        buffer = out + buffer[len(out):]
+    except Refused as why:
+        words = "refused %s" % why
+    return " in %d: %s, buffer%s" % (length, words, shown(buffer))
+
+
+def write_fid(value, length=5):
+    def form():
+        refuse_if(value >= 1 << 30, 12)
+        return "length %d" % len(lead(value)), lead(value)
+    leaf("W", "write_fid %d%s" % (value, into_buffer(length, form)), value=value, length=length)
+
+
+def packed(text, tag, length):
+    def form():
+        check_pair(text, tag)
+        return "length %d" % len(pack(text, tag)), pack(text, tag)
+    leaf("P", "pack%s%s%s" % (part(text), part(tag), into_buffer(length, form)), text, tag, length=length)
+
+
+def unpacked(s, length):
+    def parts():
+        text, tag = unpack(s)
+        return "lengths %d %d" % (len(text), len(tag)), text + tag
+    leaf("U", "unpack%s%s" % (part(s), into_buffer(length, parts)), s, length=length)
+
+
 # ---- the lists of calls
+
+def texts():
+    title("text: the examples of RFC 3629, section 7")
+    text_check(b"\x41\xE2\x89\xA2\xCE\x91\x2E", True)
+    text_check(b"\xED\x95\x9C\xEA\xB5\xAD\xEC\x96\xB4", True)
+    text_check(b"\xE6\x97\xA5\xE6\x9C\xAC\xE8\xAA\x9E", True)
+    text_check(b"\xEF\xBB\xBF\xF0\xA3\x8E\xB4", True)
+    title("text: the first and the last character of each length")
+    for c in ("", "\0", "\x7F", "\x80", "\u07FF", "\u0800", "\uFFFF", "\U00010000", "\U0010FFFF"):
+        text_check(c.encode(), True)
+    title("not text: two, three and four bytes where fewer would do")
+    for s in (b"\xC0\x80", b"\xC1\xBF", b"\xE0\x80\x80", b"\xE0\x9F\xBF", b"\xF0\x80\x80\x80", b"\xF0\x8F\xBF\xBF"):
+        text_check(s, False)
+    title("not text: surrogates; text: the characters before and after them")
+    text_check(b"\xED\x9F\xBF", True)
+    text_check(b"\xED\xA0\x80", False)
+    text_check(b"\xED\xBF\xBF", False)
+    text_check(b"\xEE\x80\x80", True)
+    title("not text: above 10FFFF, no byte of UTF-8, a tail byte first")
+    for s in (b"\xF4\x90\x80\x80", b"\xF5\x80\x80\x80", b"\xFE", b"\xFF", b"\x80"):
+        text_check(s, False)
+    title("not text: cut at every length, also with a letter before or behind")
+    for s in (b"\xC3", b"\xE2", b"\xE2\x89", b"\xF0", b"\xF0\xA3", b"\xF0\xA3\x8E", b"\xE2\x89\x41", b"\x41\xC3"):
+        text_check(s, False)
+
+
+def splits():
+    title("the split of an IRI")
+    for s in (b"http://p/a#b", b"a/", b"urn:press", b"", b"/", b"#", b"a#b/c", b"a/b#c", b"a/b/"):
+        split_iri(s)
+
+
+def hashes():
+    title("FNV-1a of 32 bits: values from the test list of its authors")
+    for s, published in ((b"", 0x811c9dc5), (b"a", 0xe40c292c), (b"b", 0xe70c2de5), (b"c", 0xe60c2c52), (b"d", 0xe10c2473),
+                         (b"e", 0xe00c22e0), (b"f", 0xe30c2799), (b"fo", 0x6222e842), (b"foo", 0xa9f37ed7),
+                         (b"foob", 0x3f5076ef), (b"fooba", 0x39aaa18a), (b"foobar", 0xbf9cf968)):
+        hash_of(s, published)
+
+
+def leads():
+    title("frequent ids written, at every boundary")
+    for value in (0, 63, 64, 16383, 16384, 4194303, 4194304, 2**30 - 1, 2**30, 2**64 - 1):
+        write_fid(value)
+    title("frequent ids written into a buffer that is too short: 12 comes before 11")
+    for value, length in ((63, 0), (64, 1), (16384, 2), (4194304, 3), (2**30, 0)):
+        write_fid(value, length)
+    title("frequent ids read: what follows is not looked at")
+    for s in (b"\x3F\x99", b"\x40\x40\x99", b"\x7F\xFF", b"\x80\x40\x00", b"\xC0\x40\x00\x00\x99", b"\xFF\xFF\xFF\xFF"):
+        read_fid(s)
+    title("frequent ids longer than needed are read by value")
+    for s in (b"\x40\x3F", b"\x80\x00\x01", b"\xC0\x00\x00\x00"):
+        read_fid(s)
+    title("frequent ids cut short")
+    for s in (b"", b"\x40", b"\x80\x00", b"\xC0\x00\x00"):
+        read_fid(s)
+
+
+# A long tag with bytes that are escaped.
+MARKED = b"a" * 120 + b">" * 8
+
+
+def packings():
+    title("packing: short tags")
+    packed(b"Ein", b"de", 8)
+    packed(b"", b"de", 4)
+    packed(b"Ein", b"de", 6)
+    packed(b"Ein", b"de", 5)
+    packed(b"Ein", b"\\>", 8)
+    packed(b"Ein", b"a" * 127, 140)
+    title("packing: long tags")
+    packed(b"", b"a" * 127 + b">", 140)
+    packed(b"Ein", b"a" * 128, 140)
+    packed(b"Ein", b"\\" * 128, 270)
+    packed(b"Ein", MARKED, 150)
+    packed(b"Ein", MARKED, 141)
+    packed(b"Ein", MARKED, 140)
+    title("packing: the longest pair, and one byte more")
+    packed(b"a" * 3998, b"de", 4001)
+    packed(b"a" * 3999, b"de", 4001)
+    packed(b"", b"\\" * 4000, 8002)
+    title("packing refused: 5, 6, 7, 11 in this order")
+    packed(b"Ein", b"", 8)
+    packed(b"\xFF", b"de", 8)
+    packed(b"Ein", b"\xC3", 8)
+    packed(b"\xFF", b"", 8)
+    packed(b"\xFF" * 4001, b"", 8)
+    packed(b"Ein", b"", 0)
+
+
+def unpackings():
+    title("unpacking")
+    unpacked(b"\x02deEin", 8)
+    unpacked(pack(b"Ein", MARKED), 140)
+    unpacked(pack(b"Ein", MARKED), 130)
+    title("unpacking: the longest form, one byte more, and a form that holds too long a name")
+    unpacked(pack(b"", b"\\" * 4000), 4000)
+    unpacked(b"\xAA" * 8003, 4000)
+    unpacked(b"\x01" * 4003, 4001)
+    title("unpacking refuses what packing never makes")
+    unpacked(b"", 4)
+    unpacked(b"\x03de", 4)
+    unpacked(b"\x80" * 200, 4)
+    unpacked(b"\0" * 200, 4)
+    unpacked(b"\0de>Ein", 8)
+    unpacked(b"\x01\xC3\xA9", 4)
+    unpacked(b"\x01\xFFEin", 8)
+    title("unpacking refused: 5, 13, 11 in this order")
+    unpacked(b"", 0)
+    unpacked(b"\0" * 8003, 0)
+
 
 def opening():
     m = Memory(16384, 976)
@@ -855,6 +1027,6 @@ def heads():
     m.counts()
 
 
-for section in (opening, kinds, lengths, reading, unopened, filling, refusing, blocks, heads):
+for section in (opening, kinds, lengths, reading, unopened, filling, refusing, blocks, heads, texts, splits, hashes, leads, packings, unpackings):
     section()
 sys.stdout.write("".join({"stdin": STDIN, "stdout": STDOUT}[sys.argv[1]]))

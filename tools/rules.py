@@ -5,6 +5,7 @@ import itertools
 import re
 
 LONGEST = 4000
+LONGEST_PACKED = 8002
 RANGES = [(13, 20), (1, 1024), (1, 1048576), (4, 24), (1, 4096)]  # p, N, E, w, B
 
 # RFC 3629, section 4.
@@ -47,6 +48,36 @@ def pack(text, tag):
 
 def is_text(s):
     return UTF8.fullmatch(s) is not None
+
+
+def read_lead(s):
+    """The value and the length of the lead in front."""
+    length = (s[0] >> 6) + 1 if s else 1
+    refuse_if(len(s) < length, 13)
+    return int.from_bytes(s[:length], "big") % (1 << (8 * length - 2)), length
+
+
+def check_pair(text, tag):
+    refuse_if(len(text) + len(tag) > LONGEST, 5)
+    refuse_if(not (is_text(text) and is_text(tag)), 6)
+    refuse_if(not tag, 7)
+
+
+def unpack(form):
+    """Text and tag. Exactly what packing makes of a legal pair is accepted."""
+    refuse_if(len(form) > LONGEST_PACKED, 5)
+    refuse_if(not form, 13)
+    if form[0]:
+        tag, text = form[1:1 + form[0]], form[1 + form[0]:]
+    else:
+        tag, _, text = form[1:].partition(b">")
+        tag = re.sub(rb"\\(.)", lambda m: {b"a": b">"}.get(m[1], m[1]), tag, flags=re.DOTALL)
+    try:
+        check_pair(text, tag)
+    except Refused:
+        raise Refused(13)
+    refuse_if(pack(text, tag) != form, 13)
+    return text, tag
 
 
 class Entries:

@@ -1,6 +1,7 @@
-// Makes the calls that its input lists, on the exported entries open, add, find, read and count. Prints each with its answer.
-// tools/expected_calls.py makes the files stdin and stdout. It has the answers from document 01 alone.
+// Makes the calls that its input lists, on all the exported entries. Prints each with its answer.
+// tools/expected_calls.py makes the files stdin and stdout. It has the answers from document 01 and from published vectors alone.
 mod call;
+mod leaf;
 mod run;
 mod script;
 mod show;

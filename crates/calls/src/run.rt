@@ -7,6 +7,8 @@
 //   c P L KIND                       count
 //   b P L FROM FROM                  no call: prints the lent pages and the lent lists from there on
 //   A P L NAME, C P L KIND           add and count: prints only the answer, and no line end
+//   T S H R W P U VALUE LENGTH PART PART   a leaf rule: text check, split, hash, frequent id read and written, packing, unpacking. Each takes
+//                                    what it needs of the value, a buffer of AA of that length, and the two parts
 //   q P L NAME                       add: prints nothing
 //   = P L NAME NUMBER                read: prints nothing, and counts one more right if the number has that name
 //   n TEXT                           prints the text and how many were right, and counts from 0 again
@@ -15,6 +17,7 @@
 //   -- TEXT                          a title: prints the line as it is
 // An empty line prints a line end.
 use crate::call;
+use crate::leaf;
 use crate::script;
 use crate::show;
 ghost use Prim.Native.Nat.{_≤_};
@@ -25,8 +28,8 @@ pub type Pages = [u8; 49156];
 
 pub type Lists = [u8; 11088];
 
-// The longest name and the longest buffer in the lists of calls.
-const LONGEST: usize = 4002;
+// The longest name, packed form and buffer in the lists of calls.
+const LONGEST: usize = 8004;
 
 fn open(s: &[u8], i: usize, pages: &[u8], lists: &mut [u8])
     requires { ⌜ i ≤ length (now s) ⌝ }
@@ -122,6 +125,30 @@ fn named(op: u8, s: &[u8], i: usize, pages: &mut [u8], lists: &mut [u8]) -> u64
     split(op, number.value, kind.value, n, &both[..m], pages, lists)
 }
 
+// A leaf rule. Its two parts stand one behind the other, and the first has n bytes.
+fn leaf_of(op: u8, value: u64, n: usize, both: &[u8], room: usize)
+    requires { ⌜ n ≤ length (now both) ⌝ }
+{
+    let mut buffer = [0xAAu8; LONGEST];
+    if room <= LONGEST {
+        leaf::call(op, value, &both[..n], &both[n..], &mut buffer[..room]);
+    }
+}
+
+// A line with a leaf rule: no memory is lent to it.
+fn leaf_in(op: u8, s: &[u8])
+    requires { ⌜ 2 ≤ length (now s) ⌝ }
+{
+    let mut both = [0u8; LONGEST];
+    let value = script::number(s, 2);
+    let length = script::number(s, value.end);
+    let first = script::part(s, length.end, &mut both, 0);
+    let n = first.value as usize;
+    let second = script::part(s, first.end, &mut both, n);
+    let m = second.value as usize;
+    leaf_of(op, value.value, n, &both[..m], length.value as usize);
+}
+
 // A line without a name. Its words before i are read already.
 fn numbers(op: u8, s: &[u8], i: usize, pages: &[u8], lists: &[u8])
     requires { ⌜ i ≤ length (now s) ⌝ }
@@ -205,6 +232,10 @@ fn line(s: &[u8], right: u64, pages: &mut Pages, lists: &mut Lists) -> u64 {
         b'm' => {
             let byte = script::number(s, 2);
             fill(byte.value, pages, lists);
+            right
+        }
+        b'T' | b'S' | b'H' | b'R' | b'W' | b'P' | b'U' => {
+            leaf_in(s[0], s);
             right
         }
         _ => std::num::wrapping_add_u64(right, lent(s[0], s, pages, lists)),

@@ -1,14 +1,18 @@
-// Runs the calls of a list and compares the answers. A line is a call with its answer: + add, ? find, < read, # count; the kind; f fresh,
-// k known, n a name, - none; the number in four hexadecimal digits and a space; the first part, '|', the second part. A read is given the
-// number, and the name is its answer.
+// Makes the calls that its input lists and compares the answers. A line is a call with its answer: + add, ? find, < read, # count; the kind;
+// f fresh, k known, n a name, - none; the number in four hexadecimal digits and a space; the first part, '|', the second part. A read is
+// given the number, and the name is its answer. Three lines are no calls:
+//   o        opens the dictionary anew
+//   = NAME   prints the name, how many calls there were and how many of them differ, and counts from 0 again
+//   -- TEXT  a title: prints the line as it is
 use numbers::NamedictNumbered;
 ghost use Prim.Native.Nat.{_≤_};
 ghost use lib.ListN.{length};
 
-// The memory of each list: page width 13, 8 pages, lists of 120, blocks of 16, 64 blocks.
-pub type Pages = [u8; 65536];
-
-pub type Lists = [u8; 20416];
+// How many calls were made, and how many of them had another answer.
+struct Tally {
+    calls: u64,
+    differ: u64,
+}
 
 fn digit(b: u8) -> u64
     ensures { λ r. ⌜ r ≤ 255 ⌝ }
@@ -127,44 +131,77 @@ fn line(s: &[u8], pages: &mut [u8], lists: &mut [u8]) -> bool {
     )
 }
 
-// 0 if the line has the right answer. Else prints the line and returns 1.
-fn differing(s: &[u8], pages: &mut [u8], lists: &mut [u8]) -> usize
-    ensures { λ r. ⌜ r ≤ 1 ⌝ }
-{
+// Makes the call of the line, prints the line if the answer differs, and counts it.
+fn tallied(s: &[u8], t: Tally, pages: &mut [u8], lists: &mut [u8]) -> Tally {
+    let calls = std::num::wrapping_add_u64(t.calls, 1);
     if line(s, pages, lists) {
-        return 0;
+        return Tally {
+            calls,
+            differ: t.differ,
+        };
     }
     io::write_all(1, b"differs: ");
+    print(s);
+    Tally {
+        calls,
+        differ: std::num::wrapping_add_u64(t.differ, 1),
+    }
+}
+
+fn print(s: &[u8]) {
     io::write_all(1, s);
     io::write_all(1, b"\n");
-    1
 }
 
-fn ended(name: &[u8], done: usize, wrong: usize) {
+fn ended(name: &[u8], t: Tally) {
     io::write_all(1, name);
     io::write_all(1, b": ");
-    io::print_decimal(1, done as u64);
+    io::print_decimal(1, t.calls);
     io::write_all(1, b" calls, ");
-    io::print_decimal(1, wrong as u64);
-    io::write_all(1, b" differ\n");
+    io::print_decimal(1, t.differ);
+    print(b" differ");
 }
 
-// Runs the lines. Prints each that differs, and how many lines there are.
-pub fn run(name: &[u8], calls: &[u8], pages: &mut [u8], lists: &mut [u8]) {
-    let mut i = 0;
-    let mut done = 0;
-    let mut wrong = 0;
-    while i < calls.len() {
-        let end = lines::end_of(calls, i, b'\n');
-        wrong += differing(&calls[i..end], pages, lists);
-        done += 1;
-        i = end + 1;
-    }
-    ended(name, done, wrong);
-}
-
-pub fn open(pages: &Pages, lists: &mut Lists) {
+// The sizes of each list: page width 13, 8 pages, lists of 120, blocks of 16, 64 blocks.
+fn open(pages: &[u8], lists: &mut [u8]) {
     if namedict::namedict_open(pages, lists, 13, 8, 120, 4, 64) != 0 {
-        io::write_all(1, b"not opened\n");
+        print(b"not opened");
+    }
+}
+
+// Takes one line. `t` is the tally before it. Returns the tally after it.
+fn take(s: &[u8], t: Tally, pages: &mut [u8], lists: &mut [u8]) -> Tally {
+    // Only the line o has fewer than two bytes.
+    if s.len() < 2 {
+        open(pages, lists);
+        return t;
+    }
+    match s[0] {
+        b'-' => {
+            print(s);
+            t
+        }
+        b'=' => {
+            ended(&s[2..], t);
+            Tally {
+                calls: 0,
+                differ: 0,
+            }
+        }
+        _ => tallied(s, t, pages, lists),
+    }
+}
+
+// Takes the lines, one after the other.
+pub fn run(s: &[u8], pages: &mut [u8], lists: &mut [u8]) {
+    let mut t = Tally {
+        calls: 0,
+        differ: 0,
+    };
+    let mut i = 0;
+    while i < s.len() {
+        let end = lines::end_of(s, i, b'\n');
+        t = take(&s[i..end], t, pages, lists);
+        i = end + 1;
     }
 }

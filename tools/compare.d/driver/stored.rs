@@ -1,8 +1,9 @@
-//! Prints the stored list: calls with the original's answers alone, as the source of the program replay.
+//! Prints the stored lists: calls with the original's answers alone, as the input of the program replay.
 //! A line is a call: + add, ? find, < read, # count; the kind; f fresh, k known, n a name, - none; the number in
 //! four hexadecimal digits; a space; the first part, '|', the second part. Of a read the number is given, and the name is the answer.
 use crate::random::Random;
 use crate::theirs;
+use std::io::Write;
 
 struct List {
     dictionary: Box<dyn theirs::Dictionary>,
@@ -53,62 +54,6 @@ impl List {
             self.line('#', kind, 'n', count, "", "");
         }
     }
-
-    /// Pieces of at most a thousand bytes, since larger ones take the prover longer.
-    fn pieces(&self) -> Vec<&[Vec<u8>]> {
-        let mut pieces = Vec::new();
-        let (mut from, mut room) = (0, 1000);
-        for (n, line) in self.lines.iter().enumerate() {
-            if room < line.len() {
-                pieces.push(&self.lines[from..n]);
-                (from, room) = (n, 1000);
-            }
-            room -= line.len();
-        }
-        pieces.push(&self.lines[from..]);
-        pieces
-    }
-
-    fn print(&self, name: &str, note: &str) {
-        let pieces = self.pieces();
-        let count = self.lines.len();
-        for (n, piece) in pieces.iter().enumerate() {
-            println!("\nfn {name}_{}(pages: &mut Pages, lists: &mut Lists) {{", n + 1);
-            println!("    replay::run(\n        b\"{name} {}\",\n        b\"{}\",\n        pages,\n        lists,\n    );\n}}", n + 1, wrapped(piece));
-        }
-        println!("\n// {note} {count} calls.");
-        println!("pub fn {name}(pages: &mut Pages, lists: &mut Lists) {{\n    replay::open(pages, lists);");
-        for n in 1..=pieces.len() {
-            println!("    {name}_{n}(pages, lists);");
-        }
-        println!("}}");
-    }
-}
-
-/// Several calls to a line of the source.
-fn wrapped(piece: &[Vec<u8>]) -> String {
-    let mut all = String::new();
-    let mut width = 0;
-    for line in piece {
-        let text = escaped(line);
-        if width > 0 && width + text.len() > 120 {
-            all += "\\\n        ";
-            width = 0;
-        }
-        width += text.len();
-        all += &text;
-    }
-    all
-}
-
-fn escaped(bytes: &[u8]) -> String {
-    bytes.iter().map(|b| match b {
-        b'\n' => "\\n".to_string(),
-        b'\\' => "\\\\".to_string(),
-        b'"' => "\\\"".to_string(),
-        b' '..=b'~' => (*b as char).to_string(),
-        _ => format!("\\x{b:02x}"),
-    }).collect()
 }
 
 /// The kinds in turns of several lengths, so that their blocks lie between one another and some are skipped; every third number read.
@@ -216,21 +161,20 @@ fn mixed() -> List {
     list
 }
 
+/// The input of the program: each list with its note, an open before it and its name behind it.
 pub fn print() {
-    println!("// Calls with the answers of the original (Nemo, commit 7706c48f81), with blocks of 16. Made by `tools/compare NEMO_SOURCE ARCHIVE");
-    println!("// stored`; no answer comes from this library. replay.rt tells what a line says.");
-    println!("use crate::replay;\nuse crate::replay::Lists;\nuse crate::replay::Pages;");
+    let mut out = std::io::stdout();
     for (name, note, list) in lists() {
-        list.print(name, note);
+        out.write_all(format!("-- {note}\no\n").as_bytes()).unwrap();
+        out.write_all(&list.lines.concat()).unwrap();
+        out.write_all(format!("= {name}\n").as_bytes()).unwrap();
     }
 }
 
 /// What the program prints if no answer differs.
 pub fn print_stdout() {
-    for (name, _, list) in lists() {
-        for (n, piece) in list.pieces().iter().enumerate() {
-            println!("{name} {}: {} calls, 0 differ", n + 1, piece.len());
-        }
+    for (name, note, list) in lists() {
+        println!("-- {note}\n{name}: {} calls, 0 differ", list.lines.len());
     }
 }
 
