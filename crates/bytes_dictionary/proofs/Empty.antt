@@ -18,7 +18,7 @@ use Rattle.bytes_index.specs.Entries.{Holds}
 use Rattle.bytes_index.proofs.Filled.{filled-none}
 use Rattle.bytes_buffer.proofs.Tables.{opened-pages}
 use Rattle.bytes_dictionary.specs.Store.{emptyStore, StoreAt}
-use Rattle.bytes_dictionary.proofs.Reading.{words-in}
+use Rattle.bytes_entry.proofs.Inside.{words-in}
 
 -- Every word of `lists` but the format and the sizes is 0.
 abbrev pub Zeroed : Sizes → Bytes → Type 0

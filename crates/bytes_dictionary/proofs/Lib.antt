@@ -3,7 +3,6 @@ pub mod Updates
 pub mod Frame
 pub mod More
 pub mod Reading
-pub mod Keys
 pub mod Looked
 pub mod Written
 pub mod Steps

@@ -1,5 +1,5 @@
--- What the count's word says. The words of a dictionary lie inside `lists`. Assumes nothing.
-use Prim.Native.Nat.{ℕ, _+_, _*_, _≤_, _<_}
+-- What the count's word says. Assumes nothing.
+use Prim.Native.Nat.{ℕ, _≤_, _<_}
 use mathlib.Core.Path.{_≡_}
 use mathlib.Core.Logic.{inl, inr}
 use native.Mathlib.Omega.{arith}
@@ -7,9 +7,6 @@ use lib.Dec.{leb}
 use borrow.Author.Tests.{leb-true, leb-false, le-leb, lt-leb}
 use Rattle.slices.proofs.Tests.{Split, split}
 use Rattle.layout.specs.declared.Sizes.{Sizes}
-use Rattle.layout.specs.Sizes.{InRange, dictionaries, listBytes}
-use Rattle.layout.specs.Fields.{dictAt}
-use Rattle.layout.proofs.Places.{dict-within, list-bytes}
 use Rattle.bytes_dictionary.specs.declared.Counted.the-variants.{Entries, Bad}
 use Rattle.bytes_dictionary.specs.Reading.{countIn}
 
@@ -36,7 +33,3 @@ uncounted s w q = go (split (leb w (s .e)))
     go : Split (leb w (s .e)) → s .e < w
     go (inl p) = let f : Entries w ≡ Bad = rw p at q in let z : _≡_ {A = ℕ} 0 1 = cc in absurd (omega arith)
     go (inr p) = leb-false w (s .e) p
-
--- The words of a dictionary end inside `lists`, and their indices are small.
-pub words-in : (s : Sizes) (d : ℕ) → InRange s → d < dictionaries → (8 * (dictAt s d + 3 * s .e) ≤ listBytes s) × (dictAt s d + 3 * s .e ≤ 1073741824)
-words-in s d r l = let w = dict-within s d l in (omega (arith, list-bytes s), omega (arith, r .n, r .e))

@@ -14,8 +14,8 @@ use Rattle.layout.specs.Sizes.{InRange, dictionaries, listBytes}
 use Rattle.layout.specs.Fields.{untakenAt, currentAt, takenAt, pageAt, countAt, dictAt, entryAt, orderAt, placeAt, entryWord, placeWord}
 use Rattle.layout.proofs.Places.{dict-below, dict-from, list-bytes}
 use Rattle.bytes_buffer.proofs.Tables.{SameTables}
-use Rattle.bytes_dictionary.specs.Written.{entryWritten}
-use Rattle.bytes_dictionary.proofs.Reading.{words-in}
+use Rattle.bytes_entry.specs.Written.{entryWritten}
+use Rattle.bytes_entry.proofs.Inside.{words-in}
 
 -- What the words of the dictionaries are after entry number n of dictionary d was written.
 pub record Step (s : Sizes) (lists lists′ : Bytes) (d n page offset len stamp place h : ℕ) : Type 0 where

@@ -31,7 +31,8 @@ use Rattle.bytes_buffer.proofs.Words.{length-extended, length-took}
 use Rattle.bytes_buffer.proofs.Tables.{SameTables, framed, current-below}
 use Rattle.bytes_buffer.proofs.Plans.{plan-fit, plan-unfit}
 use Rattle.bytes_buffer.proofs.Commits.{extended-holds, took-holds}
-use Rattle.bytes_dictionary.specs.Written.{entryWritten, pagesAfter, listsAfter, IsSpot}
+use Rattle.bytes_entry.specs.Written.{entryWritten}
+use Rattle.bytes_dictionary.specs.Written.{pagesAfter, listsAfter, IsSpot}
 use Rattle.bytes_dictionary.specs.Store.{Store, inserted, DictAt, StoreAt}
 use Rattle.bytes_dictionary.specs.Ready.{Ready}
 use Rattle.bytes_dictionary.proofs.Updates.{upd-same, upd-other, upd-each, more-old}

@@ -3,27 +3,15 @@ use Prim.Native.Nat.{ℕ, _+_, _*_, _<_, _≤_}
 use lib.ListN.{length}
 use lib.Seq.{sets}
 use Rattle.slices.specs.Bytes.{Bytes}
-use Rattle.words.specs.Words.{setWord, setQuad}
 use Rattle.fnv.specs.Fnv.{fnvOf}
 use Rattle.layout.specs.declared.Sizes.{Sizes}
 use Rattle.layout.specs.Sizes.{pageSize}
-use Rattle.layout.specs.Fields.{countAt, entryAt, orderAt, placeAt, entryWord, placeWord}
 use Rattle.bytes_buffer.specs.declared.Spot.{Spot}
 use Rattle.bytes_buffer.specs.declared.Spot.the-variants.{Current, Next, NoPage, Bad}
 use Rattle.bytes_buffer.specs.Spots.{extendedPage, tookPage}
+use Rattle.bytes_entry.specs.Written.{entryWritten}
 use Rattle.bytes_dictionary.specs.declared.Room.{Room}
 use Rattle.bytes_dictionary.specs.declared.Room.the-variants.{At, Nothing}
-
--- The words of entry number n, whose key has the hash h: where it lies, its stamp, the index place that names it, and the count.
-unfoldable pub entryWritten : Sizes → Bytes → ℕ → ℕ → ℕ → ℕ → ℕ → ℕ → ℕ → ℕ → Bytes
-entryWritten s lists d n page offset len stamp place h =
-    setWord
-    (setQuad
-    (setWord (setWord lists (entryAt s d n) (entryWord page offset len)) (orderAt s d n) stamp)
-    (placeAt s d place)
-    (placeWord n h))
-    (countAt d)
-    (n + 1)
 
 -- The pages get the key's bytes at its spot; `lists` gets its words and those of its page. Without a spot nothing is written.
 unfoldable pub pagesAfter : Sizes → Bytes → Spot → Bytes → Bytes

@@ -1,6 +1,6 @@
 // An add of a legal name: the number of a name that is stored, or a plan and then all writes. The memory may hold any bytes.
 use bytes_dictionary::Counted;
-use bytes_dictionary::NewEntry;
+use bytes_entry::NewEntry;
 use bytes_index::Key;
 use bytes_index::Probe;
 use layout::Sizes;

@@ -4,8 +4,8 @@ use native.Mathlib.Omega.{arith}
 use Rattle.slices.proofs.Sets.{sets-mid}
 use Rattle.bytes_index.specs.Search.{bytesIn}
 use borrow.Author.Needs.{needs}
-use Rattle.bytes_dictionary.proofs.write_key.Statement.{statement}
-use Rattle.bytes_dictionary.proofs.write_key.Tie as tie
+use Rattle.bytes_entry.proofs.write_key.Statement.{statement}
+use Rattle.bytes_entry.proofs.write_key.Tie as tie
 
 sub-write-tail : tie.Need-sub-write-tail
 sub-write-tail c = search needs

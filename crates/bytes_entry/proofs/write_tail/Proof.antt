@@ -3,10 +3,10 @@ use native.Mathlib.Omega.{arith}
 use lib.ListN.{length-take, length-drop}
 use Rattle.parts.specs.Parts.{bytesOf}
 use Rattle.bytes_index.proofs.Stored.{length-key}
-use Rattle.bytes_dictionary.proofs.Keys.{put-tail}
+use Rattle.bytes_entry.proofs.Keys.{put-tail}
 use borrow.Author.Needs.{needs}
-use Rattle.bytes_dictionary.proofs.write_tail.Statement.{statement}
-use Rattle.bytes_dictionary.proofs.write_tail.Tie as tie
+use Rattle.bytes_entry.proofs.write_tail.Statement.{statement}
+use Rattle.bytes_entry.proofs.write_tail.Tie as tie
 
 measure-requires : tie.Need-measure-requires
 measure-requires c κs =

@@ -8,11 +8,11 @@ use Rattle.words.specs.Words.{setWord, setQuad}
 use Rattle.layout.specs.declared.Sizes.{Sizes}
 use Rattle.layout.specs.Sizes.{listBytes}
 use Rattle.layout.specs.Fields.{countAt, dictAt, entryWord, placeWord}
-use Rattle.bytes_dictionary.specs.Written.{entryWritten}
-use Rattle.bytes_dictionary.proofs.Reading.{words-in}
+use Rattle.bytes_entry.specs.Written.{entryWritten}
+use Rattle.bytes_entry.proofs.Inside.{words-in}
 use borrow.Author.Needs.{needs}
-use Rattle.bytes_dictionary.proofs.write_entry.Statement.{statement}
-use Rattle.bytes_dictionary.proofs.write_entry.Tie as tie
+use Rattle.bytes_entry.proofs.write_entry.Statement.{statement}
+use Rattle.bytes_entry.proofs.write_entry.Tie as tie
 
 -- The words of the dictionary lie inside the lists.
 base : (c : tie.After-dict-at) →

@@ -7,8 +7,8 @@ use Rattle.layout.specs.Sizes.{pageBytes}
 use Rattle.layout.proofs.Ranges.{page-size, page-bytes, in-pages}
 use Rattle.bytes_index.specs.Search.{bytesIn}
 use borrow.Author.Needs.{needs}
-use Rattle.bytes_dictionary.proofs.place_entry.Statement.{statement}
-use Rattle.bytes_dictionary.proofs.place_entry.Tie as tie
+use Rattle.bytes_entry.proofs.place_entry.Statement.{statement}
+use Rattle.bytes_entry.proofs.place_entry.Tie as tie
 
 abbrev start : tie.After-page-size → tie.Start
 start c = c .before .before .before .before .before
