@@ -93,6 +93,29 @@ fn again(t: Tally, one: u64, two: u64, s: &[u8]) -> Tally {
     t
 }
 
+// Counts a line that gives a name the number `two`. `new`: no line gave it one before. Else the last gave `one`, and `line` is its line in the first
+// numbering.
+fn told(t: Tally, second: bool, new: bool, line: u64, one: u64, two: u64, s: &[u8]) -> Tally {
+    if new {
+        return fresh(t, second, two, s);
+    }
+    if second && line != 0 {
+        return both(t, one, two, s);
+    }
+    again(t, one, two, s)
+}
+
+// The line that is kept of a name's lines in the first numbering. 0: the second has the name too.
+fn kept_line(second: bool, new: bool, line: u64, now: u64) -> u64 {
+    if second {
+        0
+    } else if new {
+        now
+    } else {
+        line
+    }
+}
+
 // A line gives the number `value` to the name s, which has the number i in the dictionary.
 fn say(
     t: Tally,
@@ -110,20 +133,8 @@ fn say(
     let one = numbers[i];
     let line = first_lines[i];
     numbers[i] = value;
-    first_lines[i] = if second {
-        0
-    } else if new {
-        t.line
-    } else {
-        line
-    };
-    if new {
-        return fresh(t, second, value, s);
-    }
-    if second && line != 0 {
-        return both(t, one, value, s);
-    }
-    again(t, one, value, s)
+    first_lines[i] = kept_line(second, new, line, t.line);
+    told(t, second, new, line, one, value, s)
 }
 
 // A line of the first or the second numbering.
@@ -189,6 +200,24 @@ fn how_many(first_lines: &Numbers) -> u64 {
     n
 }
 
+// Prints the first name that only the first numbering has.
+fn first_missing(pages: &Pages, lists: &Lists, numbers: &Numbers, first_lines: &Numbers) {
+    let i = missing(first_lines);
+    if i < NUMBERS {
+        report::text(b"first only in the first: ");
+        report::number(numbers[i]);
+        report::text(b" ");
+        number::name_of(i as u64, pages, lists);
+        report::text(b"\n");
+    }
+}
+
+// A count, and what is counted.
+fn counted(n: u64, what: &[u8]) {
+    report::number(n);
+    report::text(what);
+}
+
 // Prints what is known once both are read. `refused`: how many lines of the first were refused.
 pub fn end(
     refused: u64,
@@ -198,25 +227,12 @@ pub fn end(
     numbers: &Numbers,
     first_lines: &Numbers,
 ) {
-    let i = missing(first_lines);
-    if i < NUMBERS {
-        report::text(b"first only in the first: ");
-        report::number(numbers[i]);
-        report::text(b" ");
-        number::name_of(i as u64, pages, lists);
-        report::text(b"\n");
-    }
+    first_missing(pages, lists, numbers, first_lines);
     report::text(b"# ");
-    report::number(t.agree);
-    report::text(b" agree, ");
-    report::number(t.differ);
-    report::text(b" differ, ");
-    report::number(how_many(first_lines));
-    report::text(b" only in the first, ");
-    report::number(t.added);
-    report::text(b" only in the second; lines refused: ");
-    report::number(refused);
-    report::text(b" and ");
-    report::number(t.refused);
-    report::text(b"\n");
+    counted(t.agree, b" agree, ");
+    counted(t.differ, b" differ, ");
+    counted(how_many(first_lines), b" only in the first, ");
+    counted(t.added, b" only in the second; lines refused: ");
+    counted(refused, b" and ");
+    counted(t.refused, b"\n");
 }

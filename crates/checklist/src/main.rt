@@ -26,6 +26,21 @@ struct Next {
     count: u64,
 }
 
+// Opens the file that word i names: - is the standard input. Below 0: it cannot be opened.
+fn opened(i: usize) -> i32 {
+    let mut path = io::buffer();
+    let n = os::arg(i, &mut path);
+    report::remark(b"", &path[..n]);
+    if line::is(&path[..n], b"-") {
+        return 0;
+    }
+    let fd = os::open_read(&path[..n]);
+    if fd < 0 {
+        report::remark(b"cannot be opened: ", &path[..n]);
+    }
+    fd
+}
+
 // Runs the lines of the file that word i names.
 fn file(
     i: usize,
@@ -35,19 +50,14 @@ fn file(
     numbers: &mut Numbers,
     first_lines: &mut Numbers,
 ) -> Tally {
-    let mut path = io::buffer();
-    let n = os::arg(i, &mut path);
-    report::remark(b"", &path[..n]);
-    if line::is(&path[..n], b"-") {
-        return input::run(0, task, pages, lists, numbers, first_lines);
-    }
-    let fd = os::open_read(&path[..n]);
+    let fd = opened(i);
     if fd < 0 {
-        report::remark(b"cannot be opened: ", &path[..n]);
         return report::none(false);
     }
     let t = input::run(fd, task, pages, lists, numbers, first_lines);
-    libc::close(fd);
+    if fd > 0 {
+        libc::close(fd);
+    }
     t
 }
 
@@ -116,10 +126,48 @@ fn after(done: bool, i: usize, width: u64, count: u64) -> Next
     Next { word, width, count }
 }
 
-// Runs the command at word i, behind which there are `left` words.
-fn command(
+// The commands. Unknown: a word that is none, or one with too few words behind it.
+enum Command {
+    Number,
+    Read,
+    Compare,
+    Blocks,
+    Unknown,
+}
+
+// The command with this name, behind which there are `left` words.
+fn named(name: &[u8], left: usize) -> Command {
+    if left >= 1 {
+        if line::is(name, b"number") {
+            return Command::Number;
+        }
+        if line::is(name, b"read") {
+            return Command::Read;
+        }
+    }
+    if left >= 2 {
+        if line::is(name, b"compare") {
+            return Command::Compare;
+        }
+        if line::is(name, b"blocks") {
+            return Command::Blocks;
+        }
+    }
+    report::usage(name);
+    Command::Unknown
+}
+
+// The command at word i, behind which there are `left` words.
+fn command_at(i: usize, left: usize) -> Command {
+    let mut name = io::buffer();
+    let n = os::arg(i, &mut name);
+    named(&name[..n], left)
+}
+
+// Runs the command at word i.
+fn run_command(
+    which: Command,
     i: usize,
-    left: usize,
     width: u64,
     count: u64,
     pages: &mut Pages,
@@ -130,29 +178,28 @@ fn command(
     requires { ⌜ i < 1000 ⌝ }
     ensures { λ r. ⌜ i < r .word ⌝ }
 {
-    let mut name = io::buffer();
-    let n = os::arg(i, &mut name);
-    if line::is(&name[..n], b"number") && left >= 1 {
-        let done = number_names(i + 1, pages, lists, numbers, first_lines);
-        return after(done, i + 2, width, count);
+    match which {
+        Command::Number => {
+            let done = number_names(i + 1, pages, lists, numbers, first_lines);
+            after(done, i + 2, width, count)
+        }
+        Command::Read => {
+            let done = read_back(i + 1, pages, lists, numbers, first_lines);
+            after(done, i + 2, width, count)
+        }
+        Command::Compare => {
+            let done = compare_two(i + 1, i + 2, pages, lists, numbers, first_lines);
+            dictionary::open(pages, lists, width, count);
+            after(done, i + 3, width, count)
+        }
+        Command::Blocks => {
+            let width = size(i + 1);
+            let count = size(i + 2);
+            let done = dictionary::open(pages, lists, width, count);
+            after(done, i + 3, width, count)
+        }
+        Command::Unknown => after(false, i + 1, width, count),
     }
-    if line::is(&name[..n], b"read") && left >= 1 {
-        let done = read_back(i + 1, pages, lists, numbers, first_lines);
-        return after(done, i + 2, width, count);
-    }
-    if line::is(&name[..n], b"compare") && left >= 2 {
-        let done = compare_two(i + 1, i + 2, pages, lists, numbers, first_lines);
-        dictionary::open(pages, lists, width, count);
-        return after(done, i + 3, width, count);
-    }
-    if line::is(&name[..n], b"blocks") && left >= 2 {
-        let width = size(i + 1);
-        let count = size(i + 2);
-        let done = dictionary::open(pages, lists, width, count);
-        return after(done, i + 3, width, count);
-    }
-    report::usage(&name[..n]);
-    after(false, i + 1, width, count)
 }
 
 // Runs the commands one after the other: the words from 1 on, below n.
@@ -175,9 +222,9 @@ fn commands(
             report::too_many(i, STOP);
             return;
         }
-        let next = command(
+        let next = run_command(
+            command_at(i, n - i - 1),
             i,
-            n - i - 1,
             width,
             count,
             pages,

@@ -42,8 +42,8 @@ pub fn number(n: u64) {
     io::print_decimal(1, n);
 }
 
-// Prints document 01's word for a refusal.
-pub fn word(refusal: u64) {
+// Document 01's words for the refusals of sizes, memory and names.
+fn name_word(refusal: u64) {
     match refusal {
         1 => text(b"bad size"),
         2 => text(b"short memory"),
@@ -51,13 +51,28 @@ pub fn word(refusal: u64) {
         4 => text(b"bad kind"),
         5 => text(b"too long"),
         6 => text(b"not text"),
-        7 => text(b"no tag"),
+        _ => text(b"no tag"),
+    }
+}
+
+// Those of room and of forms.
+fn room_word(refusal: u64) {
+    match refusal {
         8 => text(b"list full"),
         9 => text(b"no page"),
         10 => text(b"no block"),
         11 => text(b"short buffer"),
         12 => text(b"high number"),
         _ => text(b"cut form"),
+    }
+}
+
+// Prints document 01's word for a refusal.
+pub fn word(refusal: u64) {
+    if refusal < 8 {
+        name_word(refusal);
+    } else {
+        room_word(refusal);
     }
 }
 

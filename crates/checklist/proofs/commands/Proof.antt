@@ -29,14 +29,17 @@ too-many-requires c κs = search needs
 returns-2 : tie.Need-returns-2 Inv-loop μ-loop
 returns-2 c = search needs
 
-sub-command : tie.Need-sub-command Inv-loop μ-loop
-sub-command c = search needs
+sub-command-at : tie.Need-sub-command-at Inv-loop μ-loop
+sub-command-at c = search needs
 
-sub-command-2 : tie.Need-sub-command-2 Inv-loop μ-loop
-sub-command-2 c = search needs
+sub-command-at-2 : tie.Need-sub-command-at-2 Inv-loop μ-loop
+sub-command-at-2 c = search needs
 
-command-requires : tie.Need-command-requires Inv-loop μ-loop
-command-requires c κs = search needs
+command-at-requires : tie.Need-command-at-requires Inv-loop μ-loop
+command-at-requires c κs = search needs
+
+run-command-requires : tie.Need-run-command-requires Inv-loop μ-loop
+run-command-requires c κs = search needs
 
 loop-less : tie.Need-loop-less Inv-loop μ-loop
 loop-less c = search needs
@@ -59,9 +62,10 @@ commands-spec =
     loop-holds
     too-many-requires
     returns-2
-    sub-command
-    sub-command-2
-    command-requires
+    sub-command-at
+    sub-command-at-2
+    command-at-requires
+    run-command-requires
     loop-less
     loop-again
     returns-3)
