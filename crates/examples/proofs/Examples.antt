@@ -2,7 +2,7 @@
 use mathlib.Core.Path.{refl}
 use Rattle.layout.specs.Sizes.{nameLimit, limit}
 use Rattle.utf8.specs.Text.{firstOf, isText}
-use Rattle.parts.specs.Parts.{escape, escaped}
+use Rattle.encoding.specs.Encoding.{escape, escaped}
 use Rattle.ranked_pair_iri_dv_dict.specs.Split.{headOf}
 use Rattle.ranked_pair_dictionary.specs.FrequentId.{furtherBytes, frequentId, fid, writeRefusal, writeFidAnswer, writeFidBuffer}
 use Rattle.string_dv_dict.specs.Packed.{packed, pairRefusal}

@@ -8,7 +8,7 @@ use native.Mathlib.Omega.{arith}
 use lib.ListN.{length, take, drop, length-append}
 use Rattle.slices.specs.Bytes.{Bytes}
 use Rattle.slices.proofs.Tests.{clash}
-use Rattle.parts.specs.Parts.{escaped}
+use Rattle.encoding.specs.Encoding.{escaped}
 use Rattle.string_dv_dict_unpack.specs.declared.Form.the-variants as F
 use Rattle.string_dv_dict.specs.Packed.{packed}
 use Rattle.string_dv_dict_unpack.specs.Forms.{tagIn, textIn, accepted, unescaped}

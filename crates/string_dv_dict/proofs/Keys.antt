@@ -9,7 +9,8 @@ use lib.Seq.{sets}
 use Rattle.slices.specs.Bytes.{Bytes}
 use Rattle.slices.proofs.Tests.{Split, split}
 use Rattle.parts.specs.declared.Mode.the-variants.{Tag}
-use Rattle.parts.specs.Parts.{escaped, tagBytes, bytesOf}
+use Rattle.encoding.specs.Encoding.{escaped, tagBytes}
+use Rattle.parts.specs.Parts.{bytesOf}
 use Rattle.string_dv_dict.specs.Packed.{packed}
 use Rattle.string_dv_dict.proofs.Writes.{two-parts}
 

@@ -13,7 +13,7 @@ use Rattle.slices.specs.Bytes.{Bytes, isEmpty}
 use Rattle.slices.proofs.Tests.{Split, split, and-left, and-right, passed}
 use Rattle.layout.specs.Sizes.{nameLimit, packedLimit, packed-from-name}
 use Rattle.utf8.specs.Text.{isText}
-use Rattle.parts.proofs.Laws.{length-escaped}
+use Rattle.encoding.proofs.Laws.{length-escaped}
 use Rattle.refusals.specs.declared.Refusal.{Refusal}
 use Rattle.refusals.specs.declared.Refusal.the-variants.{TooLong, NotText, NoTag, ShortBuffer}
 use Rattle.refusals.specs.declared.Written.the-variants as W

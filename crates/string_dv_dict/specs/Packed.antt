@@ -9,7 +9,7 @@ use lib.ListN.{length}
 use Rattle.slices.specs.Bytes.{Bytes, isEmpty}
 use Rattle.layout.specs.Sizes.{nameLimit}
 use Rattle.utf8.specs.Text.{isText}
-use Rattle.parts.specs.Parts.{escaped}
+use Rattle.encoding.specs.Encoding.{escaped}
 use Rattle.refusals.specs.declared.Refusal.{Refusal}
 use Rattle.refusals.specs.declared.Refusal.the-variants.{TooLong, NotText, NoTag}
 

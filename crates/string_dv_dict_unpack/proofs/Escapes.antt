@@ -10,7 +10,7 @@ use lib.Dec.{eqb}
 use lib.ListN.{length, take, drop}
 use Rattle.slices.specs.Bytes.{Bytes}
 use Rattle.slices.proofs.Tests.{Split, split}
-use Rattle.parts.specs.Parts.{escape, escaped}
+use Rattle.encoding.specs.Encoding.{escape, escaped}
 use Rattle.string_dv_dict_unpack.specs.declared.Scan.the-variants.{Whole, Escape, Bad}
 use Rattle.string_dv_dict_unpack.specs.Forms.{before, behind, unescaped}
 use Rattle.string_dv_dict_unpack.specs.Scans.{scanFrom}

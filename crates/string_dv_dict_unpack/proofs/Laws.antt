@@ -14,7 +14,7 @@ use Rattle.slices.specs.Bytes.{Bytes, isEmpty}
 use Rattle.slices.proofs.Tests.{Split, split, and-left, and-right, passed, clash}
 use Rattle.slices.proofs.Bytes.{bytes-true, bytes-same, not-empty}
 use Rattle.layout.specs.Sizes.{packedLimit}
-use Rattle.parts.specs.Parts.{escaped}
+use Rattle.encoding.specs.Encoding.{escaped}
 use Rattle.refusals.specs.declared.Refusal.{Refusal}
 use Rattle.refusals.specs.declared.Refusal.the-variants.{TooLong, ShortBuffer, CutForm}
 use Rattle.refusals.specs.declared.Written.the-variants as W

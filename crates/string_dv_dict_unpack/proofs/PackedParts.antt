@@ -14,8 +14,8 @@ use borrow.Author.Tests.{eqb-true, eqb-false, leb-true, leb-false, ltb-true, ltb
 use Rattle.slices.specs.Bytes.{Bytes}
 use Rattle.slices.proofs.Tests.{Split, split, clash}
 use Rattle.utf8.specs.Text.{isText}
-use Rattle.parts.specs.Parts.{escaped}
-use Rattle.parts.proofs.Laws.{length-escaped}
+use Rattle.encoding.specs.Encoding.{escaped}
+use Rattle.encoding.proofs.Laws.{length-escaped}
 use Rattle.string_dv_dict_unpack.specs.declared.Scan.{Scan}
 use Rattle.string_dv_dict_unpack.specs.declared.Scan.the-variants.{Whole, Escape, Bad}
 use Rattle.string_dv_dict_unpack.specs.declared.Form.{Form}

@@ -10,7 +10,7 @@ use Rattle.slices.specs.Bytes.{Bytes}
 use Rattle.slices.proofs.Tests.{Split, split}
 use Rattle.utf8.specs.Text.{isText}
 use Rattle.utf8.proofs.Laws.{text-written, WrittenAs, as-itself, as-two, eachAs}
-use Rattle.parts.specs.Parts.{escape, escaped}
+use Rattle.encoding.specs.Encoding.{escape, escaped}
 
 escaped-each : (t : Bytes) → escaped t ≡ eachAs escape t
 unfolding escaped

@@ -6,7 +6,7 @@ use mathlib.Core.List.{[], _∷_}
 use lib.Dec.{eqb, leb, ltb}
 use lib.ListN.{length, take, drop}
 use Rattle.slices.specs.Bytes.{Bytes}
-use Rattle.parts.specs.Parts.{escaped}
+use Rattle.encoding.specs.Encoding.{escaped}
 use Rattle.string_dv_dict_unpack.specs.declared.Scan.{Scan}
 use Rattle.string_dv_dict_unpack.specs.declared.Scan.the-variants.{Whole, Escape, Bad}
 use Rattle.string_dv_dict_unpack.specs.declared.Form.{Form}

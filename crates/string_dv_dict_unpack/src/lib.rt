@@ -1,7 +1,7 @@
 // Packed tagged strings unpacked again (the second half of Nemo's string_dv_dict.rs).
+use encoding::SHORT;
 use layout::Sizes;
 use parts::Mode;
-use parts::SHORT;
 use refusals::Checked;
 use refusals::Refusal;
 ghost use mathlib.Core.Path.{_≡_};

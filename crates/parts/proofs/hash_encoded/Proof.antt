@@ -7,9 +7,9 @@ use borrow.Author.Needs.{needs}
 use Rattle.slices.specs.Bytes.{Bytes}
 use Rattle.fnv.specs.Fnv.{fnvFrom}
 use Rattle.fnv.proofs.Laws.{fnv-append}
-use Rattle.parts.specs.declared.Form.{Form}
-use Rattle.parts.specs.Parts.{encodedByte, encoded, storedBytes}
-use Rattle.parts.proofs.Laws.{encoded-more, encoded-end}
+use Rattle.encoding.specs.declared.Form.{Form}
+use Rattle.encoding.specs.Encoding.{encodedByte, encoded, storedBytes}
+use Rattle.encoding.proofs.Laws.{encoded-more, encoded-end}
 use Rattle.parts.proofs.hash_encoded.Statement.{statement}
 use Rattle.parts.proofs.hash_encoded.Tie as tie
 

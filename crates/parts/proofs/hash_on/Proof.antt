@@ -2,7 +2,7 @@
 use borrow.Author.Needs.{needs}
 use Rattle.fnv.specs.Fnv.{fnvFrom}
 use Rattle.parts.specs.Parts.{bytesOf}
-use Rattle.parts.proofs.Laws.{tag-bytes}
+use Rattle.encoding.proofs.Laws.{tag-bytes}
 use Rattle.parts.proofs.hash_on.Statement.{statement}
 use Rattle.parts.proofs.hash_on.Tie as tie
 

@@ -5,7 +5,7 @@ use native.Mathlib.Omega.{arith}
 use lib.ListN.{length}
 use borrow.Author.Needs.{needs}
 use Rattle.parts.specs.Parts.{bytesOf}
-use Rattle.parts.proofs.Laws.{tag-bytes}
+use Rattle.encoding.proofs.Laws.{tag-bytes}
 use Rattle.parts.proofs.measure.Statement.{statement}
 use Rattle.parts.proofs.measure.Tie as tie
 

@@ -4,8 +4,8 @@ use Prim.Native.Nat.{_+_, _≤_, _-_}
 use native.Mathlib.Omega.{arith}
 use lib.ListN.{length, drop, length-append}
 use borrow.Author.Needs.{needs}
-use Rattle.parts.specs.Parts.{encoded, storedBytes}
-use Rattle.parts.proofs.Laws.{encoded-more, encoded-end, length-encoded}
+use Rattle.encoding.specs.Encoding.{encoded, storedBytes}
+use Rattle.encoding.proofs.Laws.{encoded-more, encoded-end, length-encoded}
 use Rattle.parts.proofs.measure_encoded.Statement.{statement}
 use Rattle.parts.proofs.measure_encoded.Tie as tie
 

@@ -7,8 +7,10 @@ use lib.ListN.{take, drop}
 use borrow.Author.Tests.{not-true, not-false}
 use borrow.Author.Needs.{needs}
 use Rattle.slices.specs.Bytes.{sameBytes}
-use Rattle.parts.specs.Parts.{bytesOf, formOf, firstByte, encoded}
-use Rattle.parts.proofs.Laws.{tag-bytes, same-append, same-front}
+use Rattle.encoding.specs.Encoding.{formOf, firstByte, encoded}
+use Rattle.parts.specs.Parts.{bytesOf}
+use Rattle.encoding.proofs.Laws.{tag-bytes}
+use Rattle.parts.proofs.Laws.{same-append, same-front}
 use Rattle.parts.proofs.same.Statement.{statement}
 use Rattle.parts.proofs.same.Tie as tie
 

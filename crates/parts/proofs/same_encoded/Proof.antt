@@ -9,8 +9,9 @@ use lib.Seq.{take-all, drop-drop}
 use borrow.Author.Tests.{not-true, not-false}
 use borrow.Author.Needs.{needs}
 use Rattle.slices.specs.Bytes.{Bytes, sameBytes}
-use Rattle.parts.specs.Parts.{encoded, storedBytes}
-use Rattle.parts.proofs.Laws.{encoded-more, encoded-end, same-append, same-length}
+use Rattle.encoding.specs.Encoding.{encoded, storedBytes}
+use Rattle.encoding.proofs.Laws.{encoded-more, encoded-end}
+use Rattle.parts.proofs.Laws.{same-append, same-length}
 use Rattle.parts.proofs.same_encoded.Statement.{statement}
 use Rattle.parts.proofs.same_encoded.Tie as tie
 

@@ -5,8 +5,10 @@ use mathlib.Core.List.{_∷_}
 use native.Mathlib.Omega.{arith}
 use lib.ListN.{length, length-set}
 use borrow.Author.Needs.{needs}
-use Rattle.parts.specs.Parts.{bytesOf, formOf, firstByte, encoded}
-use Rattle.parts.proofs.Laws.{tag-bytes, sets-front}
+use Rattle.encoding.specs.Encoding.{formOf, firstByte, encoded}
+use Rattle.parts.specs.Parts.{bytesOf}
+use Rattle.encoding.proofs.Laws.{tag-bytes}
+use Rattle.parts.proofs.Laws.{sets-front}
 use Rattle.parts.proofs.write.Statement.{statement}
 use Rattle.parts.proofs.write.Tie as tie
 

@@ -7,8 +7,9 @@ use lib.ListN.{length, drop, length-append}
 use lib.Seq.{sets}
 use borrow.Author.Needs.{needs}
 use Rattle.slices.specs.Bytes.{Bytes}
-use Rattle.parts.specs.Parts.{encoded, storedBytes}
-use Rattle.parts.proofs.Laws.{encoded-more, encoded-end, sets-append}
+use Rattle.encoding.specs.Encoding.{encoded, storedBytes}
+use Rattle.encoding.proofs.Laws.{encoded-more, encoded-end}
+use Rattle.parts.proofs.Laws.{sets-append}
 use Rattle.parts.proofs.write_encoded.Statement.{statement}
 use Rattle.parts.proofs.write_encoded.Tie as tie
 

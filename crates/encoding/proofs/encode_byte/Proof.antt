@@ -1,8 +1,8 @@
 -- A byte of a short tag, the two bytes that are escaped in a long one, and every other. Assumes nothing.
 use borrow.Author.Tests.{eq-eqb, ne-eqb, not-true, not-false}
-use Rattle.parts.specs.Parts.{escape, encodedByte}
-use Rattle.parts.proofs.encode_byte.Statement.{statement}
-use Rattle.parts.proofs.encode_byte.Tie as tie
+use Rattle.encoding.specs.Encoding.{escape, encodedByte}
+use Rattle.encoding.proofs.encode_byte.Statement.{statement}
+use Rattle.encoding.proofs.encode_byte.Tie as tie
 
 returns : tie.Need-returns
 unfolding encodedByte

@@ -6,9 +6,9 @@ use mathlib.Core.List.{[], _∷_}
 use lib.ListN.{length, take, drop, drop-of-length-le}
 use borrow.Author.Needs.{needs}
 use Rattle.slices.specs.Bytes.{Bytes, sameBytes}
-use Rattle.parts.proofs.Laws.{same-one}
-use Rattle.parts.proofs.has_byte.Statement.{statement}
-use Rattle.parts.proofs.has_byte.Tie as tie
+use Rattle.encoding.proofs.Laws.{same-one}
+use Rattle.encoding.proofs.has_byte.Statement.{statement}
+use Rattle.encoding.proofs.has_byte.Tie as tie
 
 past : (a at : ℕ) (s : Bytes) → length s ≤ at → false ≡ sameBytes (a ∷ []) (take 1 (drop at s))
 past a at s l = rw (drop-of-length-le s l)

@@ -5,8 +5,8 @@ use native.Mathlib.Numerals.{towards-suc}
 use native.Mathlib.Omega.{arith}
 use lib.ListN.{length, length-set}
 use borrow.Author.Needs.{needs}
-use Rattle.parts.proofs.put_stored.Statement.{statement}
-use Rattle.parts.proofs.put_stored.Tie as tie
+use Rattle.encoding.proofs.put_stored.Statement.{statement}
+use Rattle.encoding.proofs.put_stored.Tie as tie
 
 -- How much room the form of each arm has.
 one : (c : tie.After-known-told) → c .before .before .before .args .at + 1 ≤ length (c .before .before .before .args .dst .now)

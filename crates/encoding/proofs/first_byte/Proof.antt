@@ -5,10 +5,10 @@ use lib.Dec.{leb}
 use lib.ListN.{length}
 use borrow.Author.Tests.{leb-true, not-false}
 use borrow.Author.Needs.{needs}
-use Rattle.parts.specs.declared.Form.{Form}
-use Rattle.parts.specs.Parts.{isLong}
-use Rattle.parts.proofs.first_byte.Statement.{statement}
-use Rattle.parts.proofs.first_byte.Tie as tie
+use Rattle.encoding.specs.declared.Form.{Form}
+use Rattle.encoding.specs.Encoding.{isLong}
+use Rattle.encoding.proofs.first_byte.Statement.{statement}
+use Rattle.encoding.proofs.first_byte.Tie as tie
 
 long : (c : tie.After-form-of) → c .form-of .result .long ≡ isLong (c .before .before .args .tag .now)
 long c = ap (λ (f : Form). f .long) (c .form-of .ensures)

@@ -3,8 +3,8 @@ use mathlib.Core.Path.{_∙_, ap}
 use Prim.Native.Nat.{ℕ}
 use borrow.Author.Needs.{needs}
 use Rattle.fnv.specs.Fnv.{fnvFrom, fnvStep}
-use Rattle.parts.proofs.hash_stored.Statement.{statement}
-use Rattle.parts.proofs.hash_stored.Tie as tie
+use Rattle.encoding.proofs.hash_stored.Statement.{statement}
+use Rattle.encoding.proofs.hash_stored.Tie as tie
 
 enum-told : tie.Need-enum-told
 enum-told c = search needs

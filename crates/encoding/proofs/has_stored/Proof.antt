@@ -11,9 +11,9 @@ use lib.Seq.{drop-cons}
 use borrow.Author.Tests.{eq-eqb, ne-eqb}
 use borrow.Author.Needs.{needs}
 use Rattle.slices.specs.Bytes.{Bytes, sameBytes}
-use Rattle.parts.proofs.Laws.{and-true, same-one}
-use Rattle.parts.proofs.has_stored.Statement.{statement}
-use Rattle.parts.proofs.has_stored.Tie as tie
+use Rattle.encoding.proofs.Laws.{and-true, same-one}
+use Rattle.encoding.proofs.has_stored.Statement.{statement}
+use Rattle.encoding.proofs.has_stored.Tie as tie
 
 two : (a b at : ℕ) (s : Bytes) → at + 2 ≤ length s → (eqb a (getD s at 0) && eqb b (getD s (at + 1) 0)) ≡ sameBytes (a ∷ b ∷ []) (take 2 (drop at s))
 two a b at s l =

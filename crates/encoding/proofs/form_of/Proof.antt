@@ -7,8 +7,8 @@ use lib.Dec.{leb, ltb}
 use lib.ListN.{length}
 use borrow.Author.Tests.{leb-true, leb-false, lt-ltb, le-ltb}
 use Rattle.slices.proofs.Tests.{Split, split}
-use Rattle.parts.proofs.form_of.Statement.{statement}
-use Rattle.parts.proofs.form_of.Tie as tie
+use Rattle.encoding.proofs.form_of.Statement.{statement}
+use Rattle.encoding.proofs.form_of.Tie as tie
 
 over : (m n : ℕ) → ltb m n ≡ not (leb n m)
 over m n = go (split (leb n m))
