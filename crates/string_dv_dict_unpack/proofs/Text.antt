@@ -9,7 +9,7 @@ use lib.Dec.{eqb}
 use Rattle.slices.specs.Bytes.{Bytes}
 use Rattle.slices.proofs.Tests.{Split, split}
 use Rattle.utf8.specs.Text.{isText}
-use Rattle.utf8.proofs.Laws.{text-written, WrittenAs, as-itself, as-two, eachAs}
+use Rattle.utf8_char.proofs.Laws.{text-written, WrittenAs, as-itself, as-two, eachAs}
 use Rattle.encoding.specs.Encoding.{escape, escaped}
 
 escaped-each : (t : Bytes) → escaped t ≡ eachAs escape t

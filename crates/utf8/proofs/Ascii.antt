@@ -14,9 +14,9 @@ use borrow.Author.Tests.{lt-ltb, ltb-true, eqb-true, eqb-false, eq-eqb}
 use Rattle.slices.specs.Bytes.{Bytes}
 use Rattle.slices.proofs.Tests.{Split, split, and-left, and-right, same-test}
 use Rattle.words.specs.Words.{leAt}
-use Rattle.utf8.specs.Text.{charStart}
+use Rattle.utf8_char.specs.Text.{charStart}
 use Rattle.utf8.specs.Passing.{ascii, Passed}
-use Rattle.utf8.proofs.Bounds.{first-one, text-more}
+use Rattle.utf8_char.proofs.Bounds.{first-one, text-more}
 
 -- ---- the mask
 

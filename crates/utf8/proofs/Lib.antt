@@ -1,6 +1,3 @@
 -- Laws that belong to no one function.
-pub mod Bounds
-pub mod Grammar
-pub mod Laws
 pub mod Ascii
 pub mod Runs

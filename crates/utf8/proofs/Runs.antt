@@ -7,11 +7,11 @@ use lib.ListN.{length, getD, drop}
 use borrow.Author.Tests.{ne-eqb}
 use Rattle.slices.specs.Bytes.{Bytes}
 use Rattle.slices.proofs.Tests.{and-left, and-right}
-use Rattle.utf8.specs.declared.Step.the-variants.{Due}
-use Rattle.utf8.specs.Grammar.{In, Tail}
-use Rattle.utf8.specs.Text.{within, charStart, firstOf, after, textFrom}
+use Rattle.utf8_char.specs.declared.Step.the-variants.{Due}
+use Rattle.utf8_char.specs.Grammar.{In, Tail}
+use Rattle.utf8_char.specs.Text.{within, charStart, firstOf, after, textFrom}
 use Rattle.utf8.specs.Passing.{isTwo, isThree, Passed}
-use Rattle.utf8.proofs.Bounds.{inside, bounds, first-two, first-e1-ec, text-more}
+use Rattle.utf8_char.proofs.Bounds.{inside, bounds, first-two, first-e1-ec, text-more}
 
 -- The n bytes from i on are tail bytes.
 abbrev Tails : ℕ → Bytes → ℕ → Type 0

@@ -1,4 +1,3 @@
 -- The definitions of this crate, by subject.
-pub mod Grammar
 pub mod Text
 pub mod Passing

@@ -9,12 +9,13 @@ use lib.ListN.{length, drop}
 use denote.Enum.Declared.{tagOf}
 use borrow.Author.Needs.{needs}
 use Rattle.slices.specs.Bytes.{Bytes}
-use Rattle.utf8.specs.declared.End.{End}
-use Rattle.utf8.specs.declared.End.the-variants.{At, Bad}
-use Rattle.utf8.specs.Text.{charStart, textFrom, isText}
-use Rattle.utf8.specs.Passing.{Passed, Ends}
-use Rattle.utf8.proofs.End.{the-type}
-use Rattle.utf8.proofs.Bounds.{text-end}
+use Rattle.utf8_char.specs.declared.End.{End}
+use Rattle.utf8_char.specs.declared.End.the-variants.{At, Bad}
+use Rattle.utf8_char.specs.Text.{charStart, textFrom, isText}
+use Rattle.utf8_char.specs.Ends.{Ends}
+use Rattle.utf8.specs.Passing.{Passed}
+use Rattle.utf8_char.proofs.End.{the-type}
+use Rattle.utf8_char.proofs.Bounds.{text-end}
 use Rattle.utf8.proofs.Ascii.{pass-on}
 use Rattle.utf8.proofs.is_text.Statement.{statement}
 use Rattle.utf8.proofs.is_text.Tie as tie

@@ -3,7 +3,7 @@ use mathlib.Core.Path.{_≡_, _∙_}
 use mathlib.Core.Logic.{⊎-elim}
 use mathlib.Core.Bool.{_&&_}
 use borrow.Author.Needs.{needs}
-use Rattle.utf8.specs.Text.{within}
+use Rattle.utf8_char.specs.Text.{within}
 use Rattle.utf8.proofs.is_three.Statement.{statement}
 use Rattle.utf8.proofs.is_three.Tie as tie
 

@@ -1,10 +1,10 @@
--- `utf8::next` meets its contract. Assumes nothing.
+-- `utf8_char::next` meets its contract. Assumes nothing.
 use native.Mathlib.Omega.{arith}
 use borrow.Author.Needs.{needs}
 use borrow.Author.Tests.{eq-eqb, ne-eqb}
-use Rattle.utf8.proofs.Bounds.{inside, below, above}
-use Rattle.utf8.proofs.next.Statement.{statement}
-use Rattle.utf8.proofs.next.Tie as tie
+use Rattle.utf8_char.proofs.Bounds.{inside, below, above}
+use Rattle.utf8_char.proofs.next.Statement.{statement}
+use Rattle.utf8_char.proofs.next.Tie as tie
 
 first-requires : tie.Need-first-requires
 first-requires c κs = search needs

@@ -1,4 +1,4 @@
--- `utf8::char_end` meets its contract. The loop's invariant: what is due and the bytes from k on are text where those from i on are.
+-- `utf8_char::char_end` meets its contract. The loop's invariant: what is due and the bytes from k on are text where those from i on are.
 -- The measure is the number of bytes left. Assumes nothing.
 use Prim.Native.Nat.{ℕ, _+_, _-_, _≤_, _<_}
 use mathlib.Core.Path.{_≡_, refl, sym, _∙_}
@@ -9,13 +9,13 @@ use denote.Enum.Declared.{tagOf}
 use borrow.Author.Needs.{needs}
 use borrow.Author.Tests.{eq-eqb, ne-eqb}
 use Rattle.slices.specs.Bytes.{Bytes}
-use Rattle.utf8.specs.declared.Step.{Step}
-use Rattle.utf8.specs.declared.Step.the-variants.{Due, Bad}
-use Rattle.utf8.specs.Text.{charStart, after, textFrom}
-use Rattle.utf8.proofs.Step.{the-type}
-use Rattle.utf8.proofs.Bounds.{bad-stays, text-more, text-end, none-due}
-use Rattle.utf8.proofs.char_end.Statement.{statement}
-use Rattle.utf8.proofs.char_end.Tie as tie
+use Rattle.utf8_char.specs.declared.Step.{Step}
+use Rattle.utf8_char.specs.declared.Step.the-variants.{Due, Bad}
+use Rattle.utf8_char.specs.Text.{charStart, after, textFrom}
+use Rattle.utf8_char.proofs.Step.{the-type}
+use Rattle.utf8_char.proofs.Bounds.{bad-stays, text-more, text-end, none-due}
+use Rattle.utf8_char.proofs.char_end.Statement.{statement}
+use Rattle.utf8_char.proofs.char_end.Tie as tie
 
 bad-only : (x : Step) → tagOf the-type x ≡ 1 → x ≡ Bad
 bad-only (Due n lo hi) e = absurd (omega arith)

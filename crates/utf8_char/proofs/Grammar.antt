@@ -8,11 +8,11 @@ use lib.Dec.{eqb}
 use borrow.Author.Tests.{eqb-true, ne-eqb}
 use Rattle.slices.specs.Bytes.{Bytes}
 use Rattle.slices.proofs.Tests.{clash}
-use Rattle.utf8.specs.declared.Step.{Step}
-use Rattle.utf8.specs.declared.Step.the-variants.{Due, Bad}
-use Rattle.utf8.specs.Grammar.{In, Tail, Char, one, two, three-e0, three-e1-ec, three-ed, three-ee-ef, four-f0, four-f1-f3, four-f4, Octets, none, more}
-use Rattle.utf8.specs.Text.{within, charStart, firstOf, after, textFrom, isText}
-use Rattle.utf8.proofs.Bounds.{inside, below, above, bounds, first-one, first-two, first-e1-ec, first-ee-ef, first-f1-f3, choose, bad-stays}
+use Rattle.utf8_char.specs.declared.Step.{Step}
+use Rattle.utf8_char.specs.declared.Step.the-variants.{Due, Bad}
+use Rattle.utf8_char.specs.Grammar.{In, Tail, Char, one, two, three-e0, three-e1-ec, three-ed, three-ee-ef, four-f0, four-f1-f3, four-f4, Octets, none, more}
+use Rattle.utf8_char.specs.Text.{within, charStart, firstOf, after, textFrom, isText}
+use Rattle.utf8_char.proofs.Bounds.{inside, below, above, bounds, first-one, first-two, first-e1-ec, first-ee-ef, first-f1-f3, choose, bad-stays}
 
 -- ---- accepted, so derived
 

@@ -11,10 +11,10 @@ use lib.Seq.{drop-cons}
 use borrow.Author.Tests.{le-leb, lt-leb, leb-true, ne-eqb}
 use Rattle.slices.specs.Bytes.{Bytes}
 use Rattle.slices.proofs.Tests.{and-left, and-right}
-use Rattle.utf8.specs.declared.Step.{Step}
-use Rattle.utf8.specs.declared.Step.the-variants.{Due, Bad}
-use Rattle.utf8.specs.Grammar.{In}
-use Rattle.utf8.specs.Text.{within, charStart, firstOf, after, noneDue, textFrom}
+use Rattle.utf8_char.specs.declared.Step.{Step}
+use Rattle.utf8_char.specs.declared.Step.the-variants.{Due, Bad}
+use Rattle.utf8_char.specs.Grammar.{In}
+use Rattle.utf8_char.specs.Text.{within, charStart, firstOf, after, noneDue, textFrom}
 
 -- ---- the test of bounds
 

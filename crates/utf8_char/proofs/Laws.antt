@@ -7,10 +7,10 @@ use native.Mathlib.Omega.{arith}
 use lib.Dec.{eqb}
 use Rattle.slices.specs.Bytes.{Bytes}
 use Rattle.slices.proofs.Tests.{Split, split}
-use Rattle.utf8.specs.declared.Step.{Step}
-use Rattle.utf8.specs.declared.Step.the-variants.{Due, Bad}
-use Rattle.utf8.specs.Text.{within, charStart, firstOf, after, textFrom, isText}
-use Rattle.utf8.proofs.Bounds.{below, first-one, choose}
+use Rattle.utf8_char.specs.declared.Step.{Step}
+use Rattle.utf8_char.specs.declared.Step.the-variants.{Due, Bad}
+use Rattle.utf8_char.specs.Text.{within, charStart, firstOf, after, textFrom, isText}
+use Rattle.utf8_char.proofs.Bounds.{below, first-one, choose}
 
 -- ---- some bytes written as two
 

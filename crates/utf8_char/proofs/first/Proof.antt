@@ -1,10 +1,10 @@
--- `utf8::first` meets its contract. Assumes nothing.
+-- `utf8_char::first` meets its contract. Assumes nothing.
 use mathlib.Core.Path.{sym}
 use native.Mathlib.Omega.{arith}
-use Rattle.utf8.specs.Text.{firstOf}
-use Rattle.utf8.proofs.Bounds.{first-one, first-two, first-e1-ec, first-ee-ef, first-f1-f3, first-low, first-high}
-use Rattle.utf8.proofs.first.Statement.{statement}
-use Rattle.utf8.proofs.first.Tie as tie
+use Rattle.utf8_char.specs.Text.{firstOf}
+use Rattle.utf8_char.proofs.Bounds.{first-one, first-two, first-e1-ec, first-ee-ef, first-f1-f3, first-low, first-high}
+use Rattle.utf8_char.proofs.first.Statement.{statement}
+use Rattle.utf8_char.proofs.first.Tie as tie
 
 returns : tie.Need-returns
 returns c = sym (first-one _ (omega arith))

@@ -1,0 +1,4 @@
+-- The definitions of this crate, by subject.
+pub mod Grammar
+pub mod Text
+pub mod Ends
