@@ -9,14 +9,14 @@ use lib.ListN.{length, take, drop, length-append}
 use Rattle.slices.specs.Bytes.{Bytes}
 use Rattle.slices.proofs.Tests.{clash}
 use Rattle.encoding.specs.Encoding.{escaped}
-use Rattle.string_dv_dict_unpack.specs.declared.Form.the-variants as F
+use Rattle.string_dv_dict_split.specs.declared.Form.the-variants as F
 use Rattle.string_dv_dict.specs.Packed.{packed}
-use Rattle.string_dv_dict_unpack.specs.Forms.{tagIn, textIn, accepted, unescaped}
-use Rattle.string_dv_dict_unpack.specs.Scans.{splitOf}
-use Rattle.string_dv_dict_unpack.proofs.Escapes.{read-escaped}
+use Rattle.string_dv_dict_split.specs.Forms.{tagIn, textIn, accepted, unescaped}
+use Rattle.string_dv_dict_split.specs.Scans.{splitOf}
+use Rattle.string_dv_dict_split.proofs.Escapes.{read-escaped}
 use Rattle.string_dv_dict.proofs.Laws.{is-legal}
-use Rattle.string_dv_dict_unpack.proofs.Laws.{pack-unpack}
-use Rattle.string_dv_dict_unpack.proofs.PackedParts.{split-parts, long-low}
+use Rattle.string_dv_dict_split.proofs.Laws.{pack-unpack}
+use Rattle.string_dv_dict_split.proofs.PackedParts.{split-parts, long-low}
 use Rattle.layout.specs.declared.Sizes.{Sizes}
 use Rattle.layout.specs.Sizes.{kinds, pageBytes}
 use Rattle.model.specs.Names.{Name}

@@ -6,7 +6,7 @@ use mathlib.Core.List.{_++_}
 use mathlib.Core.Option.{Option, none, some}
 use lib.ListN.{length, take, drop}
 use Rattle.slices.specs.Bytes.{Bytes}
-use Rattle.string_dv_dict_unpack.specs.Forms.{unescaped}
+use Rattle.string_dv_dict_split.specs.Forms.{unescaped}
 use Rattle.layout.specs.declared.Sizes.{Sizes}
 use Rattle.layout.specs.Sizes.{kinds, pageBytes}
 use Rattle.model.specs.Names.{Name}

@@ -7,7 +7,7 @@ use meta_dv_dict::Owner;
 use names::Way;
 use parts::Mode;
 use ranked_pair_dictionary::FrequentId;
-use string_dv_dict_unpack::Form;
+use string_dv_dict_split::Form;
 ghost use mathlib.Core.Path.{_≡_};
 ghost use mathlib.Core.Bool.{true};
 ghost use mathlib.Core.List.{_++_};
@@ -84,7 +84,7 @@ fn locate_tagged(pages: &[u8], k: usize, at: usize, len: usize) -> Located
     requires { ⌜ (k < kinds) × (row k .way ≡ packs) × (at + len ≤ length (now pages)) ⌝ }
     ensures { λ r. ⌜ LocatesAlone (now (pages .entry)) k at len r ⌝ }
 {
-    match string_dv_dict_unpack::split(bytes_dictionary::id_to_bytes(pages, at, len)) {
+    match string_dv_dict_split::split(bytes_dictionary::id_to_bytes(pages, at, len)) {
         Form::Short(n) => {
             let before = n + 1;
             let text = len - before;

@@ -8,8 +8,8 @@ use Rattle.slices.specs.Bytes.{Bytes, isEmpty}
 use Rattle.layout.specs.declared.Sizes.{Sizes}
 use Rattle.ranked_pair_iri_dv_dict.specs.Split.{headLength}
 use Rattle.string_dv_dict.specs.Packed.{packed}
-use Rattle.string_dv_dict_unpack.specs.Forms.{textIn, tagIn}
-use Rattle.string_dv_dict_unpack.proofs.Laws.{parts-back}
+use Rattle.string_dv_dict_split.specs.Forms.{textIn, tagIn}
+use Rattle.string_dv_dict_split.proofs.Laws.{parts-back}
 use Rattle.model.specs.Names.{Name}
 use Rattle.model.specs.Kinds.{Way, splits, whole, packs, pairs, hasHeads, headBy, restBy, row}
 use Rattle.model.specs.Steps.{checks}

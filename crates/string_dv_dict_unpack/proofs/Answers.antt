@@ -8,9 +8,9 @@ use borrow.Author.Tests.{lt-ltb, le-ltb}
 use Rattle.slices.specs.Bytes.{Bytes}
 use Rattle.layout.specs.Sizes.{packedLimit}
 use Rattle.refusals.specs.declared.Refusal.the-variants.{TooLong, ShortBuffer, CutForm}
+use Rattle.string_dv_dict_split.specs.Forms.{accepted, textIn, tagIn}
 use Rattle.string_dv_dict_unpack.specs.declared.Unpacked.{Unpacked}
 use Rattle.string_dv_dict_unpack.specs.declared.Unpacked.the-variants.{Lengths, Refused}
-use Rattle.string_dv_dict_unpack.specs.Forms.{accepted, textIn, tagIn}
 use Rattle.string_dv_dict_unpack.specs.Answers.{unpackAnswer, unpackBuffer}
 
 module _ (form buffer : Bytes) where

@@ -1,6 +1,3 @@
 -- Laws that belong to no one function.
-pub mod Escapes
-pub mod Text
 pub mod Laws
 pub mod Answers
-pub mod PackedParts

@@ -10,9 +10,9 @@ use Rattle.layout.specs.Sizes.{packedLimit}
 use Rattle.refusals.specs.declared.Refusal.{Refusal}
 use Rattle.refusals.specs.declared.Refusal.the-variants.{TooLong, ShortBuffer, CutForm}
 use Rattle.refusals.specs.Written.{placedBy}
+use Rattle.string_dv_dict_split.specs.Forms.{accepted, textIn, tagIn}
 use Rattle.string_dv_dict_unpack.specs.declared.Unpacked.{Unpacked}
 use Rattle.string_dv_dict_unpack.specs.declared.Unpacked.the-variants.{Lengths, Refused}
-use Rattle.string_dv_dict_unpack.specs.Forms.{accepted, textIn, tagIn}
 
 abbrev pub unpackRefusal : Bytes → ℕ → Option Refusal
 unpackRefusal form room =

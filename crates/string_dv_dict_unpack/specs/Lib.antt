@@ -1,4 +1,2 @@
 -- The definitions of this crate, by subject.
-pub mod Forms
 pub mod Answers
-pub mod Scans

@@ -3,8 +3,8 @@ use Prim.Native.Nat.{_+_, _≤_}
 use mathlib.Core.Path.{_≡_, sym, ap, _∙_}
 use native.Mathlib.Omega.{arith}
 use lib.ListN.{take, drop}
-use Rattle.string_dv_dict_unpack.specs.declared.Form.{Form}
-use Rattle.string_dv_dict_unpack.specs.Scans.{splitOf}
+use Rattle.string_dv_dict_split.specs.declared.Form.{Form}
+use Rattle.string_dv_dict_split.specs.Scans.{splitOf}
 use Rattle.locate.proofs.Strings.{short-within, long-within, located-short, located-long, located-cut}
 use borrow.Author.Needs.{needs}
 use Rattle.locate.proofs.locate_tagged.Statement.{statement}

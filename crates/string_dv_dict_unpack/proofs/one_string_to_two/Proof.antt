@@ -5,8 +5,8 @@ use native.Mathlib.Omega.{arith}
 use lib.ListN.{length}
 use borrow.Author.Needs.{needs}
 use Rattle.layout.specs.Sizes.{packedLimit}
-use Rattle.string_dv_dict_unpack.specs.declared.Form.{Form}
-use Rattle.string_dv_dict_unpack.proofs.PackedParts.{PackedParts, form-parts}
+use Rattle.string_dv_dict_split.specs.declared.Form.{Form}
+use Rattle.string_dv_dict_split.proofs.PackedParts.{PackedParts, form-parts}
 use Rattle.string_dv_dict_unpack.proofs.Answers.{unpack-long-form, unpack-cut}
 use Rattle.string_dv_dict_unpack.proofs.one_string_to_two.Statement.{statement}
 use Rattle.string_dv_dict_unpack.proofs.one_string_to_two.Tie as tie

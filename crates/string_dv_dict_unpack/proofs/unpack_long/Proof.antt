@@ -6,12 +6,12 @@ use lib.ListN.{length}
 use borrow.Author.Needs.{needs}
 use Rattle.layout.specs.Sizes.{nameLimit}
 use Rattle.parts.specs.Parts.{bytesOf}
-use Rattle.string_dv_dict_unpack.specs.Forms.{textIn, tagIn}
 use Rattle.string_dv_dict.proofs.Laws.{legal-tagged}
-use Rattle.string_dv_dict_unpack.proofs.Laws.{unpack-pack}
 use Rattle.string_dv_dict.proofs.Writes.{two-parts}
+use Rattle.string_dv_dict_split.specs.Forms.{textIn, tagIn}
+use Rattle.string_dv_dict_split.proofs.Laws.{unpack-pack}
+use Rattle.string_dv_dict_split.proofs.PackedParts.{long-text, long-tag}
 use Rattle.string_dv_dict_unpack.proofs.Answers.{unpack-no-room, unpack-done, lengths}
-use Rattle.string_dv_dict_unpack.proofs.PackedParts.{long-text, long-tag}
 use Rattle.string_dv_dict_unpack.proofs.unpack_long.Statement.{statement}
 use Rattle.string_dv_dict_unpack.proofs.unpack_long.Tie as tie
 

@@ -5,10 +5,10 @@ use native.Mathlib.Omega.{arith}
 use lib.ListN.{length}
 use borrow.Author.Needs.{needs}
 use Rattle.parts.specs.Parts.{bytesOf}
-use Rattle.string_dv_dict_unpack.specs.Forms.{textIn, tagIn}
 use Rattle.string_dv_dict.proofs.Writes.{two-parts}
+use Rattle.string_dv_dict_split.specs.Forms.{textIn, tagIn}
+use Rattle.string_dv_dict_split.proofs.PackedParts.{short-text, short-tag, short-length}
 use Rattle.string_dv_dict_unpack.proofs.Answers.{unpack-no-room, unpack-done, lengths}
-use Rattle.string_dv_dict_unpack.proofs.PackedParts.{short-text, short-tag, short-length}
 use Rattle.string_dv_dict_unpack.proofs.unpack_short.Statement.{statement}
 use Rattle.string_dv_dict_unpack.proofs.unpack_short.Tie as tie
 

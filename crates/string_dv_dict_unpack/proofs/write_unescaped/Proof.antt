@@ -12,7 +12,7 @@ use lib.Seq.{sets, drop-cons}
 use borrow.Author.Tests.{eq-eqb, ne-eqb}
 use borrow.Author.Needs.{needs}
 use Rattle.slices.specs.Bytes.{Bytes}
-use Rattle.string_dv_dict_unpack.specs.Forms.{unescaped}
+use Rattle.string_dv_dict_split.specs.Forms.{unescaped}
 use Rattle.string_dv_dict_unpack.proofs.write_unescaped.Statement.{statement}
 use Rattle.string_dv_dict_unpack.proofs.write_unescaped.Tie as tie
 

@@ -9,11 +9,11 @@ use lib.Dec.{eqb}
 use lib.ListN.{length, drop, getD, drop-of-length-le}
 use lib.Seq.{drop-cons}
 use Rattle.slices.specs.Bytes.{Bytes}
-use Rattle.string_dv_dict_unpack.specs.declared.Scan.{Scan}
-use Rattle.string_dv_dict_unpack.specs.declared.Scan.the-variants.{Whole, Escape, Bad}
-use Rattle.string_dv_dict_unpack.specs.Scans.{scanStep, scanFrom, scanned}
-use Rattle.string_dv_dict_unpack.proofs.scan_tag.Statement.{statement}
-use Rattle.string_dv_dict_unpack.proofs.scan_tag.Tie as tie
+use Rattle.string_dv_dict_split.specs.declared.Scan.{Scan}
+use Rattle.string_dv_dict_split.specs.declared.Scan.the-variants.{Whole, Escape, Bad}
+use Rattle.string_dv_dict_split.specs.Scans.{scanStep, scanFrom, scanned}
+use Rattle.string_dv_dict_split.proofs.scan_tag.Statement.{statement}
+use Rattle.string_dv_dict_split.proofs.scan_tag.Tie as tie
 
 more : (st : Scan) (i : ℕ) (s : Bytes) → i < length s → scanFrom (scanStep st (getD s i 0)) (drop (i + 1) s) ≡ scanFrom st (drop i s)
 unfolding scanFrom

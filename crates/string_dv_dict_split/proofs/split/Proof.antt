@@ -8,11 +8,11 @@ use lib.ListN.{length, drop, getD}
 use borrow.Author.Needs.{needs}
 use borrow.Author.Tests.{eq-eqb, ne-eqb, le-leb, lt-leb}
 use Rattle.slices.specs.Bytes.{Bytes}
-use Rattle.string_dv_dict_unpack.specs.declared.Form.the-variants.{Short, Cut}
-use Rattle.string_dv_dict_unpack.specs.Scans.{longSplit, splitOf}
-use Rattle.string_dv_dict_unpack.proofs.PackedParts.{to-end}
-use Rattle.string_dv_dict_unpack.proofs.split.Statement.{statement}
-use Rattle.string_dv_dict_unpack.proofs.split.Tie as tie
+use Rattle.string_dv_dict_split.specs.declared.Form.the-variants.{Short, Cut}
+use Rattle.string_dv_dict_split.specs.Scans.{longSplit, splitOf}
+use Rattle.string_dv_dict_split.proofs.PackedParts.{to-end}
+use Rattle.string_dv_dict_split.proofs.split.Statement.{statement}
+use Rattle.string_dv_dict_split.proofs.split.Tie as tie
 
 empty : (form : Bytes) → length form ≡ 0 → Cut ≡ splitOf form
 unfolding splitOf

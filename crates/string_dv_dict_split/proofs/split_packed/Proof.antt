@@ -2,11 +2,11 @@
 use mathlib.Core.Path.{_≡_, sym, _∙_}
 use borrow.Author.Needs.{needs}
 use Rattle.slices.proofs.Tests.{clash}
-use Rattle.string_dv_dict_unpack.specs.declared.Form.{Form}
-use Rattle.string_dv_dict_unpack.specs.Scans.{Splits}
-use Rattle.string_dv_dict_unpack.proofs.PackedParts.{split-parts, cut-form}
-use Rattle.string_dv_dict_unpack.proofs.split_packed.Statement.{statement}
-use Rattle.string_dv_dict_unpack.proofs.split_packed.Tie as tie
+use Rattle.string_dv_dict_split.specs.declared.Form.{Form}
+use Rattle.string_dv_dict_split.specs.Scans.{Splits}
+use Rattle.string_dv_dict_split.proofs.PackedParts.{split-parts, cut-form}
+use Rattle.string_dv_dict_split.proofs.split_packed.Statement.{statement}
+use Rattle.string_dv_dict_split.proofs.split_packed.Tie as tie
 
 parts : (c : tie.After-split) (r : Form) → c .split .result ≡ r → Splits (c .before .before .args .form .now) r
 parts c r e = split-parts (c .before .before .args .form .now) r (sym (c .split .ensures) ∙ e)

@@ -11,12 +11,12 @@ use Rattle.slices.proofs.Tests.{clash}
 use Rattle.utf8.specs.Text.{isText}
 use Rattle.layout.specs.Sizes.{nameLimit}
 use Rattle.string_dv_dict.specs.Packed.{LegalTagged}
-use Rattle.string_dv_dict_unpack.specs.Forms.{textIn, tagIn, accepted}
+use Rattle.string_dv_dict_split.specs.Forms.{textIn, tagIn, accepted}
 use Rattle.string_dv_dict.proofs.Laws.{has-bytes, legal-tagged, is-legal}
-use Rattle.string_dv_dict_unpack.proofs.Laws.{unpack-pack}
-use Rattle.string_dv_dict_unpack.proofs.PackedParts.{to-end, long-text, long-is-text, long-low, long-high, long-taken, taken-form, cut-form}
-use Rattle.string_dv_dict_unpack.proofs.check_long.Statement.{statement}
-use Rattle.string_dv_dict_unpack.proofs.check_long.Tie as tie
+use Rattle.string_dv_dict_split.proofs.Laws.{unpack-pack}
+use Rattle.string_dv_dict_split.proofs.PackedParts.{to-end, long-text, long-is-text, long-low, long-high, long-taken, taken-form, cut-form}
+use Rattle.string_dv_dict_split.proofs.check_long.Statement.{statement}
+use Rattle.string_dv_dict_split.proofs.check_long.Tie as tie
 
 pair : (form : Bytes) → accepted form ≡ true → LegalTagged (textIn form) (tagIn form)
 pair form p = legal-tagged (textIn form) (tagIn form) (unpack-pack form p .0)

@@ -8,9 +8,9 @@ use lib.ListN.{length, drop, getD, drop-of-length-le}
 use lib.Seq.{drop-cons}
 use borrow.Author.Tests.{eq-eqb, ne-eqb}
 use Rattle.slices.specs.Bytes.{Bytes}
-use Rattle.string_dv_dict_unpack.specs.Forms.{before}
-use Rattle.string_dv_dict_unpack.proofs.find_end.Statement.{statement}
-use Rattle.string_dv_dict_unpack.proofs.find_end.Tie as tie
+use Rattle.string_dv_dict_split.specs.Forms.{before}
+use Rattle.string_dv_dict_split.proofs.find_end.Statement.{statement}
+use Rattle.string_dv_dict_split.proofs.find_end.Tie as tie
 
 module _ (i : ℕ) (s : Bytes) where
   found : i < length s → getD s i 0 ≡ 62 → length (before (drop i s)) ≡ 0

@@ -1,4 +1,4 @@
--- What the inner functions of unpacking find. Assumes nothing.
+-- What a scan of an escaped tag finds, and where the parts of a form lie. Assumes nothing.
 use Prim.Native.Nat.{ℕ, zero, _+_, _≤_}
 use mathlib.Core.Path.{_≡_}
 use mathlib.Core.Bool.{false, cond}
@@ -7,11 +7,11 @@ use lib.Dec.{eqb, leb, ltb}
 use lib.ListN.{length, take, drop}
 use Rattle.slices.specs.Bytes.{Bytes}
 use Rattle.encoding.specs.Encoding.{escaped}
-use Rattle.string_dv_dict_unpack.specs.declared.Scan.{Scan}
-use Rattle.string_dv_dict_unpack.specs.declared.Scan.the-variants.{Whole, Escape, Bad}
-use Rattle.string_dv_dict_unpack.specs.declared.Form.{Form}
-use Rattle.string_dv_dict_unpack.specs.declared.Form.the-variants.{Short, Long, Cut}
-use Rattle.string_dv_dict_unpack.specs.Forms.{accepted, tagIn, textIn, before}
+use Rattle.string_dv_dict_split.specs.declared.Scan.{Scan}
+use Rattle.string_dv_dict_split.specs.declared.Scan.the-variants.{Whole, Escape, Bad}
+use Rattle.string_dv_dict_split.specs.declared.Form.{Form}
+use Rattle.string_dv_dict_split.specs.declared.Form.the-variants.{Short, Long, Cut}
+use Rattle.string_dv_dict_split.specs.Forms.{accepted, tagIn, textIn, before}
 
 -- One more byte of an escaped tag.
 abbrev pub scanStep : Scan → ℕ → Scan

@@ -9,15 +9,15 @@ use denote.Enum.Declared.{tagOf}
 use borrow.Author.Needs.{needs}
 use borrow.Author.Tests.{lt-ltb, le-ltb}
 use Rattle.slices.specs.Bytes.{Bytes}
-use Rattle.string_dv_dict_unpack.specs.declared.Scan.{Scan}
-use Rattle.string_dv_dict_unpack.specs.declared.Scan.the-variants.{Whole, Escape, Bad}
-use Rattle.string_dv_dict_unpack.specs.declared.Form.the-variants.{Cut}
-use Rattle.string_dv_dict_unpack.specs.Forms.{before}
-use Rattle.string_dv_dict_unpack.specs.Scans.{scanFrom, longBy, longSplit}
-use Rattle.string_dv_dict_unpack.proofs.Scan.{the-type}
-use Rattle.string_dv_dict_unpack.proofs.Escapes.{length-before, take-before}
-use Rattle.string_dv_dict_unpack.proofs.split_long.Statement.{statement}
-use Rattle.string_dv_dict_unpack.proofs.split_long.Tie as tie
+use Rattle.string_dv_dict_split.specs.declared.Scan.{Scan}
+use Rattle.string_dv_dict_split.specs.declared.Scan.the-variants.{Whole, Escape, Bad}
+use Rattle.string_dv_dict_split.specs.declared.Form.the-variants.{Cut}
+use Rattle.string_dv_dict_split.specs.Forms.{before}
+use Rattle.string_dv_dict_split.specs.Scans.{scanFrom, longBy, longSplit}
+use Rattle.string_dv_dict_split.proofs.Scan.{the-type}
+use Rattle.string_dv_dict_split.proofs.Escapes.{length-before, take-before}
+use Rattle.string_dv_dict_split.proofs.split_long.Statement.{statement}
+use Rattle.string_dv_dict_split.proofs.split_long.Tie as tie
 
 module _ (s : Bytes) (end : ℕ) (e : end ≡ length (before s)) where
   unended : end ≡ length s → Cut ≡ longSplit s

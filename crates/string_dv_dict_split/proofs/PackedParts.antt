@@ -16,17 +16,17 @@ use Rattle.slices.proofs.Tests.{Split, split, clash}
 use Rattle.utf8.specs.Text.{isText}
 use Rattle.encoding.specs.Encoding.{escaped}
 use Rattle.encoding.proofs.Laws.{length-escaped}
-use Rattle.string_dv_dict_unpack.specs.declared.Scan.{Scan}
-use Rattle.string_dv_dict_unpack.specs.declared.Scan.the-variants.{Whole, Escape, Bad}
-use Rattle.string_dv_dict_unpack.specs.declared.Form.{Form}
-use Rattle.string_dv_dict_unpack.specs.declared.Form.the-variants as F
+use Rattle.string_dv_dict_split.specs.declared.Scan.{Scan}
+use Rattle.string_dv_dict_split.specs.declared.Scan.the-variants.{Whole, Escape, Bad}
+use Rattle.string_dv_dict_split.specs.declared.Form.{Form}
+use Rattle.string_dv_dict_split.specs.declared.Form.the-variants as F
 use Rattle.string_dv_dict.specs.Packed.{pairRefusal}
-use Rattle.string_dv_dict_unpack.specs.Forms.{before, unescaped, tagIn, textIn, accepted}
-use Rattle.string_dv_dict_unpack.specs.Scans.{scanFrom, longBy, longSplit, splitOf, formOf, ShortForm, LongForm, Splits}
-use Rattle.string_dv_dict_unpack.proofs.Escapes.{read-escaped, scan-escaped, scan-good, take-before, before-split}
-use Rattle.string_dv_dict_unpack.proofs.Text.{text-escaped}
+use Rattle.string_dv_dict_split.specs.Forms.{before, unescaped, tagIn, textIn, accepted}
+use Rattle.string_dv_dict_split.specs.Scans.{scanFrom, longBy, longSplit, splitOf, formOf, ShortForm, LongForm, Splits}
+use Rattle.string_dv_dict_split.proofs.Escapes.{read-escaped, scan-escaped, scan-good, take-before, before-split}
+use Rattle.string_dv_dict_split.proofs.Text.{text-escaped}
 use Rattle.string_dv_dict.proofs.Laws.{legal-tagged}
-use Rattle.string_dv_dict_unpack.proofs.Laws.{unpack-pack, short-form, accepted-short, short-accepted, Long, accepted-long, long-accepted}
+use Rattle.string_dv_dict_split.proofs.Laws.{unpack-pack, short-form, accepted-short, short-accepted, Long, accepted-long, long-accepted}
 
 -- A part that runs to the end, and one that starts behind the first byte.
 pub to-end : (s : Bytes) (k : ℕ) → take (length s - k) (drop k s) ≡ drop k s

@@ -10,10 +10,10 @@ use Rattle.refusals.specs.declared.Refusal.{Refusal}
 use Rattle.refusals.specs.Checked.{checkedBy}
 use Rattle.refusals.proofs.Checked.{the-type}
 use Rattle.refusals.proofs.Told.{told-legal}
-use Rattle.string_dv_dict_unpack.proofs.Laws.{unpack-pack}
-use Rattle.string_dv_dict_unpack.proofs.PackedParts.{short-pair, short-low, short-taken, taken-form, cut-form}
-use Rattle.string_dv_dict_unpack.proofs.check_short.Statement.{statement}
-use Rattle.string_dv_dict_unpack.proofs.check_short.Tie as tie
+use Rattle.string_dv_dict_split.proofs.Laws.{unpack-pack}
+use Rattle.string_dv_dict_split.proofs.PackedParts.{short-pair, short-low, short-taken, taken-form, cut-form}
+use Rattle.string_dv_dict_split.proofs.check_short.Statement.{statement}
+use Rattle.string_dv_dict_split.proofs.check_short.Tie as tie
 
 -- The check's other answer.
 not-none : (o : Option Refusal) → tagOf the-type (checkedBy o) ≡ 1 → o ≢ none

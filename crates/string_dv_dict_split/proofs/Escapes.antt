@@ -11,9 +11,9 @@ use lib.ListN.{length, take, drop}
 use Rattle.slices.specs.Bytes.{Bytes}
 use Rattle.slices.proofs.Tests.{Split, split}
 use Rattle.encoding.specs.Encoding.{escape, escaped}
-use Rattle.string_dv_dict_unpack.specs.declared.Scan.the-variants.{Whole, Escape, Bad}
-use Rattle.string_dv_dict_unpack.specs.Forms.{before, behind, unescaped}
-use Rattle.string_dv_dict_unpack.specs.Scans.{scanFrom}
+use Rattle.string_dv_dict_split.specs.declared.Scan.the-variants.{Whole, Escape, Bad}
+use Rattle.string_dv_dict_split.specs.Forms.{before, behind, unescaped}
+use Rattle.string_dv_dict_split.specs.Scans.{scanFrom}
 
 -- No '>' stands in an escaped tag.
 pub read-before : (t x : Bytes) → (before (escaped t ++ 62 ∷ x) ≡ escaped t) × (behind (escaped t ++ 62 ∷ x) ≡ x)

@@ -2,8 +2,8 @@
 use Prim.Native.Nat.{_+_, _<_}
 use borrow.Author.Needs.{needs}
 use borrow.Author.Tests.{eq-eqb, ne-eqb}
-use Rattle.string_dv_dict_unpack.proofs.scan_byte.Statement.{statement}
-use Rattle.string_dv_dict_unpack.proofs.scan_byte.Tie as tie
+use Rattle.string_dv_dict_split.proofs.scan_byte.Statement.{statement}
+use Rattle.string_dv_dict_split.proofs.scan_byte.Tie as tie
 
 -- What is required, said of the count of each arm.
 whole : (c : tie.After-state) → c .state .given .0 .0 + 1 < 18446744073709551616
