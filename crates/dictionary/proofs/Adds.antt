@@ -18,7 +18,7 @@ use Rattle.model.proofs.Decide.{decided-illegal}
 use Rattle.memory.specs.Promises.{AddPost}
 use Rattle.memory.proofs.Beyond.{beyond-same}
 use Rattle.enter.specs.Added.{AddsName}
-use Rattle.dictionary.proofs.Headers.{no-state, sizes-read, not-always, one-sizes}
+use Rattle.memory.proofs.Headers.{no-state, sizes-read, not-always, one-sizes}
 
 pub add-unopened : (pages lists : Bytes) (a : Name) → headerOf (length pages) lists ≡ H.Unopened → AddPost pages lists a (AddAnswer.refused Unopened) pages lists
 add-unopened pages lists a e =

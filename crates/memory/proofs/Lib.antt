@@ -2,6 +2,7 @@
 pub mod Probes
 pub mod Beyond
 pub mod Counts
+pub mod Headers
 pub mod Named
 pub mod Commits
 pub mod Added

@@ -126,7 +126,7 @@ pub extern "C" fn namedict_find<'a>(
     ensures { λ r. ⌜ FindReturned (now (pages .entry)) (now (lists .entry)) (entered kind (now (first .entry)) (now (second .entry))) r (now (pages .exit)) (now (lists .exit)) ⌝ }
     ensures kept { λ _. ⌜ (now (first .exit) ≡ now (first .entry)) × (now (second .exit) ≡ now (second .entry)) ⌝ }
 {
-    numbers::find_numbers(dictionary::find(pages, lists, kind as usize, first, second))
+    numbers::find_numbers(dictionary_read::find(pages, lists, kind as usize, first, second))
 }
 
 // The name that has a number: its parts at the buffer's start, one after the other.
@@ -139,7 +139,7 @@ pub extern "C" fn namedict_read(
 ) -> NamedictName
     ensures { λ r. ⌜ ReadReturned (now (pages .entry)) (now (lists .entry)) number (now (buffer .entry)) r (now (buffer .exit)) (now (pages .exit)) (now (lists .exit)) ⌝ }
 {
-    numbers::name_numbers(dictionary::read(pages, lists, GlobalId(number as usize), buffer))
+    numbers::name_numbers(dictionary_read::read(pages, lists, GlobalId(number as usize), buffer))
 }
 
 // How many names of a kind there are.
@@ -147,5 +147,5 @@ pub extern "C" fn namedict_read(
 pub extern "C" fn namedict_count(pages: &[u8], lists: &[u8], kind: u64) -> NamedictCounted
     ensures { λ r. ⌜ CountReturned (now (pages .entry)) (now (lists .entry)) kind r (now (pages .exit)) (now (lists .exit)) ⌝ }
 {
-    numbers::count_numbers(dictionary::count(pages, lists, kind as usize))
+    numbers::count_numbers(dictionary_read::count(pages, lists, kind as usize))
 }

@@ -13,7 +13,7 @@ use Rattle.model.proofs.Legal.{legal-shape, shape-refused, text-decides}
 use Rattle.search.specs.declared.Search.{Search}
 use Rattle.search.specs.Found.{EndedBy}
 use Rattle.enter.proofs.Named.{adds-known, adds-bad}
-use Rattle.dictionary.proofs.Headers.{header, in-range}
+use Rattle.memory.proofs.Headers.{header, in-range}
 use Rattle.dictionary.proofs.Adds.{add-unopened, add-illegal, add-legal}
 use borrow.Author.Needs.{needs}
 use Rattle.dictionary.proofs.add.Statement.{statement}

@@ -24,7 +24,7 @@ use Rattle.model.proofs.Names.{local-lt}
 use Rattle.memory.specs.Stands.{Stands}
 use Rattle.memory.specs.Promises.{FindBounded, FindPost}
 use Rattle.memory.proofs.Counts.{next-count}
-use Rattle.dictionary.proofs.Headers.{no-state, sizes-read, not-always, one-sizes}
+use Rattle.memory.proofs.Headers.{no-state, sizes-read, not-always, one-sizes}
 
 pub find-unopened : (pages lists : Bytes) (a : Name) → headerOf (length pages) lists ≡ H.Unopened → FindPost pages lists a (FindAnswer.refused Unopened) pages lists
 find-unopened pages lists a e =

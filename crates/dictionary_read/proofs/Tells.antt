@@ -22,7 +22,7 @@ use Rattle.memory.specs.Promises.{ReadPost}
 use Rattle.locate.specs.declared.Pieces.{Pieces}
 use Rattle.locate.specs.declared.Located.the-variants.{At, Nothing, Bad}
 use Rattle.locate.specs.Located.{piecesIn, Tells, LocatesName}
-use Rattle.dictionary.proofs.Headers.{no-state, not-always, one-sizes}
+use Rattle.memory.proofs.Headers.{no-state, not-always, one-sizes}
 
 pub read-unopened : (pages lists : Bytes) (number : ℕ) (x : Bytes) → headerOf (length pages) lists ≡ H.Unopened → ReadPost pages lists number x (ReadAnswer.refused Unopened) x pages lists
 read-unopened pages lists number x e =

@@ -17,11 +17,11 @@ use Rattle.memory.specs.Stands.{Stands}
 use Rattle.search.specs.declared.Search.{Search}
 use Rattle.search.specs.Found.{Tells, EndedBy}
 use Rattle.search.proofs.Ends.{tells}
-use Rattle.dictionary.proofs.Headers.{header, in-range}
-use Rattle.dictionary.proofs.Finds.{find-unopened, find-illegal, find-known, find-bad-number, find-none, find-bad}
+use Rattle.memory.proofs.Headers.{header, in-range}
+use Rattle.dictionary_read.proofs.Finds.{find-unopened, find-illegal, find-known, find-bad-number, find-none, find-bad}
 use borrow.Author.Needs.{needs}
-use Rattle.dictionary.proofs.find.Statement.{statement}
-use Rattle.dictionary.proofs.find.Tie as tie
+use Rattle.dictionary_read.proofs.find.Statement.{statement}
+use Rattle.dictionary_read.proofs.find.Tie as tie
 
 -- The sizes that the header has.
 opened : (c : tie.After-s) →

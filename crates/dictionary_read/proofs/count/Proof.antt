@@ -8,11 +8,11 @@ use Rattle.layout.specs.Header.{headerOf}
 use Rattle.layout.specs.Fields.{countAt}
 use Rattle.bytes_dictionary.specs.Reading.{countIn}
 use Rattle.model.specs.Kinds.{row}
-use Rattle.dictionary.proofs.Headers.{header, in-range}
-use Rattle.dictionary.proofs.Counts.{count-unopened, count-bad-kind, count-names, count-bad}
+use Rattle.memory.proofs.Headers.{header, in-range}
+use Rattle.dictionary_read.proofs.Counts.{count-unopened, count-bad-kind, count-names, count-bad}
 use borrow.Author.Needs.{needs}
-use Rattle.dictionary.proofs.count.Statement.{statement}
-use Rattle.dictionary.proofs.count.Tie as tie
+use Rattle.dictionary_read.proofs.count.Statement.{statement}
+use Rattle.dictionary_read.proofs.count.Tie as tie
 
 -- The function's start, from where the sizes were known; and that place, from where the count was read.
 abbrev start : tie.After-s → tie.Start

@@ -22,7 +22,7 @@ use Rattle.model.specs.State.{State}
 use Rattle.memory.specs.Stands.{Stands}
 use Rattle.memory.specs.Promises.{CountBounded, CountPost}
 use Rattle.memory.proofs.Counts.{main-counted}
-use Rattle.dictionary.proofs.Headers.{no-state, sizes-read, not-always, one-sizes}
+use Rattle.memory.proofs.Headers.{no-state, sizes-read, not-always, one-sizes}
 
 pub count-unopened : (pages lists : Bytes) (kind : ℕ) → headerOf (length pages) lists ≡ H.Unopened → CountPost pages lists kind (CountAnswer.refused Unopened) pages lists
 count-unopened pages lists kind e =

@@ -8,11 +8,11 @@ use Rattle.layout.specs.Header.{headerOf}
 use Rattle.layout.proofs.Ranges.{page-bytes}
 use Rattle.locate.specs.declared.Located.the-variants.{At}
 use Rattle.locate.specs.Located.{LocatesName}
-use Rattle.dictionary.proofs.Headers.{header, in-range}
-use Rattle.dictionary.proofs.Tells.{read-unopened, read-none, read-bad, read-short, read-name}
+use Rattle.memory.proofs.Headers.{header, in-range}
+use Rattle.dictionary_read.proofs.Tells.{read-unopened, read-none, read-bad, read-short, read-name}
 use borrow.Author.Needs.{needs}
-use Rattle.dictionary.proofs.read.Statement.{statement}
-use Rattle.dictionary.proofs.read.Tie as tie
+use Rattle.dictionary_read.proofs.read.Statement.{statement}
+use Rattle.dictionary_read.proofs.read.Tie as tie
 
 -- The function's start, from where the sizes were known; that place, from where the name was located; and that, from where it fits.
 abbrev start : tie.After-s → tie.Start
