@@ -1,8 +1,7 @@
--- Document 01's answer for each case of open's and of add's result. Assumes nothing.
+-- Document 01's answer for each case of open's result. Assumes nothing.
 use Rattle.model.specs.Answers.{OpenAnswer}
 use Rattle.dictionary.specs.declared.OpenResult.{OpenResult}
 use Rattle.dictionary.specs.declared.OpenResult.the-variants as O
-pub use Rattle.enter.specs.Answers.{addedBy}
 
 abbrev pub openedBy : OpenResult → OpenAnswer
 openedBy O.Done = OpenAnswer.done

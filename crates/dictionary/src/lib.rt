@@ -1,5 +1,5 @@
 // The dictionary in lent memory: open and add, which write it. Each takes any memory and any arguments, and answers or refuses as document 01 says.
-use enter::AddResult;
+use commit::AddResult;
 use layout::Header;
 use layout::Made;
 use layout::Sizes;
@@ -8,7 +8,8 @@ use refusals::Refusal;
 use search::Search;
 ghost use Rattle.model.specs.Names.{entered};
 ghost use Rattle.memory.specs.Promises.{OpenPost, AddPost};
-ghost use Rattle.dictionary.specs.Answers.{openedBy, addedBy};
+ghost use Rattle.commit.specs.Answers.{addedBy};
+ghost use Rattle.dictionary.specs.Answers.{openedBy};
 
 pub enum OpenResult {
     Done,
@@ -63,7 +64,7 @@ pub fn add<'a>(
         return AddResult::Refused(why);
     }
     match found {
-        Search::Found(local) => enter::known(lists, s, kind, local),
+        Search::Found(local) => commit::known(lists, s, kind, local),
         Search::Missing(place) => enter::add_name(pages, lists, s, kind, first, second, x, place),
         Search::Bad => AddResult::Refused(Refusal::Unopened),
     }

@@ -37,7 +37,8 @@ use Rattle.plan.specs.declared.Plan.{Plan}
 use Rattle.plan.specs.declared.Planned.{Planned}
 use Rattle.plan.specs.declared.Planned.the-variants.{Ready, Refused}
 use Rattle.plan.specs.Plans.{NoRoom, full, headless, pageless, blockless, ReadyName, PlanFits, Plans}
-use Rattle.enter.specs.Added.{namePages, nameLists, CarriedOut, EntersName, AddsName}
+use Rattle.commit.specs.Written.{namePages, nameLists}
+use Rattle.enter.specs.Added.{CarriedOut, EntersName, AddsName}
 
 -- A fresh number is in its block.
 fresh-in-blocks : (s : Sizes) (g n : ℕ) → g < s .b → InBlocks s (g * 2 ^ s .w + n % 2 ^ s .w)

@@ -39,9 +39,9 @@ use Rattle.search.specs.declared.Sought.{Sought}
 use Rattle.search.specs.declared.Search.the-variants.{Bad}
 use Rattle.search.specs.Found.{keyBehind, KeyEnded, HeadEnded, EndedBy}
 use Rattle.search.proofs.Ends.{own-key, own-new, tells}
-use Rattle.enter.specs.declared.AddResult.{AddResult}
-use Rattle.enter.specs.declared.AddResult.the-variants.{Fresh, Known, Refused}
-use Rattle.enter.specs.Answers.{addedBy, KnownBounded, Knows}
+use Rattle.commit.specs.declared.AddResult.{AddResult}
+use Rattle.commit.specs.declared.AddResult.the-variants.{Fresh, Known, Refused}
+use Rattle.commit.specs.Answers.{addedBy, KnownBounded, Knows}
 use Rattle.enter.specs.Added.{EntersName, AddsName}
 use Rattle.enter.proofs.Adds.{never, adds}
 

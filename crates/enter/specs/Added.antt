@@ -1,37 +1,21 @@
--- What an add leaves: the bytes that its writes make of pages and lists, and its promise for the name. Assumes nothing.
+-- What an add leaves: a plan carried out, and its promise for the name. Assumes nothing.
 use Prim.Native.Nat.{ℕ, _+_, _*_, _%_, _^_}
 use mathlib.Core.Path.{_≡_}
 use mathlib.Core.Option.{none}
 use lib.ListN.{length}
 use Rattle.slices.specs.Bytes.{Bytes}
 use Rattle.layout.specs.declared.Sizes.{Sizes}
-use Rattle.bytes_dictionary.specs.Written.{pagesAfter, listsAfter}
-use Rattle.meta_dv_dict.specs.Answers.{blockWritten}
 use Rattle.model.specs.Names.{Name}
-use Rattle.model.specs.Kinds.{row}
 use Rattle.model.specs.Answers.{AddAnswer}
 use Rattle.model.specs.State.{State}
 use Rattle.model.specs.Steps.{checks, addAnswer, afterAdd}
 use Rattle.memory.specs.Stands.{Stands}
 use Rattle.memory.specs.Promises.{SameBeyond, AddBounded}
-use Rattle.plan.specs.declared.Plan.{Plan}
 use Rattle.plan.specs.declared.Planned.{Planned}
 use Rattle.plan.specs.declared.Planned.the-variants.{Ready, Refused}
 use Rattle.plan.specs.Plans.{Plans}
-use Rattle.enter.specs.declared.NewName.{NewName}
-
--- ---- the writes of a plan: the head at its spot, then the key at its own. A head without a spot is not written
-
-unfoldable pub namePages : Sizes → Bytes → Plan → Bytes → Bytes → Bytes
-namePages s pages x head key = pagesAfter s (pagesAfter s pages (x .head) head) (x .spot) key
-
-unfoldable pub nameLists : Sizes → Bytes → ℕ → ℕ → ℕ → ℕ → Plan → Bytes → Bytes → Bytes
-nameLists s lists k f headPlace place x head key =
-    blockWritten s
-    (listsAfter s (listsAfter s lists (row k .headsAt) f headPlace (x .head) (x .stamp) head) (row k .mainAt) (x .n) place (x .spot) (x .stamp) key)
-    k
-    (x .n)
-    (x .g)
+use Rattle.commit.specs.declared.NewName.{NewName}
+use Rattle.commit.specs.Written.{namePages, nameLists}
 
 -- A plan carried out: a refusal leaves all as found, else the number is fresh and the plan is written.
 abbrev pub CarriedOut : Sizes → Bytes → Bytes → NewName → Bytes → Bytes → Planned → AddAnswer → Bytes → Bytes → Type 0

@@ -1,9 +1,9 @@
 // What the exported entries return: structs of numbers, and the numbers of each answer of the library. include/namedict.h declares the structs.
+use commit::AddResult;
 use dictionary::OpenResult;
 use dictionary_read::CountResult;
 use dictionary_read::FindResult;
 use dictionary_read::ReadResult;
-use enter::AddResult;
 use ranked_pair_dictionary::FrequentId;
 use ranked_pair_iri_dv_dict::Head;
 use refusals::Refusal;
@@ -11,7 +11,8 @@ use refusals::Written;
 use string_dv_dict_unpack::Unpacked;
 ghost use mathlib.Core.Path.{_≡_};
 ghost use Rattle.ranked_pair_iri_dv_dict.specs.Split.{lengthOf};
-ghost use Rattle.dictionary.specs.Answers.{openedBy, addedBy};
+ghost use Rattle.commit.specs.Answers.{addedBy};
+ghost use Rattle.dictionary.specs.Answers.{openedBy};
 ghost use Rattle.dictionary_read.specs.Answers.{foundBy, toldBy, countedBy};
 ghost use Rattle.numbers.specs.Numbers.{yesNo, writtenNumbers, valueNumbers, unpackedNumbers, openNumber, refusedNumbers, addNumbers, findNumbers, nameNumbers, countNumbers};
 

@@ -1,8 +1,8 @@
 -- Each answer by its law. Assumes nothing.
-use Rattle.enter.proofs.Knows.{knows-bad, knows-number}
+use Rattle.commit.proofs.Knows.{knows-bad, knows-number}
 use borrow.Author.Needs.{needs}
-use Rattle.enter.proofs.known.Statement.{statement}
-use Rattle.enter.proofs.known.Tie as tie
+use Rattle.commit.proofs.known.Statement.{statement}
+use Rattle.commit.proofs.known.Tie as tie
 
 local-to-global-requires : tie.Need-local-to-global-requires
 local-to-global-requires c κs = search needs

@@ -12,8 +12,8 @@ use Rattle.bytes_buffer.specs.declared.Spot.the-variants.{NoPage}
 use Rattle.bytes_dictionary.specs.Written.{HasRoom, pagesAfter, listsAfter}
 use Rattle.search.proofs.Keys.{raw-key, raw-is-key}
 use borrow.Author.Needs.{needs}
-use Rattle.enter.proofs.insert_head.Statement.{statement}
-use Rattle.enter.proofs.insert_head.Tie as tie
+use Rattle.commit.proofs.insert_head.Statement.{statement}
+use Rattle.commit.proofs.insert_head.Tie as tie
 
 -- At no spot nothing is written.
 nowhere : (s : Sizes) (pages lists : Bytes) (d n place stamp : ℕ) (spot : Spot) (key : Bytes) → spot ≡ NoPage

@@ -11,10 +11,10 @@ use Rattle.model.specs.Answers.{AddAnswer}
 use Rattle.model.specs.Kinds.{row}
 use Rattle.model.proofs.Table.{main-below}
 use Rattle.plan.specs.declared.Plan.{Plan}
-use Rattle.enter.specs.Added.{namePages, nameLists}
+use Rattle.commit.specs.Written.{namePages, nameLists}
 use borrow.Author.Needs.{needs}
-use Rattle.enter.proofs.commit.Statement.{statement}
-use Rattle.enter.proofs.commit.Tie as tie
+use Rattle.commit.proofs.commit.Statement.{statement}
+use Rattle.commit.proofs.commit.Tie as tie
 
 -- The function's start, from where the head was inserted; that place, from where the key was.
 abbrev entered : tie.After-key → tie.Start

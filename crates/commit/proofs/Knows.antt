@@ -11,8 +11,8 @@ use Rattle.meta_dv_dict.specs.declared.GlobalId.{GlobalId}
 use Rattle.meta_dv_dict.specs.Blocks.{global}
 use Rattle.meta_dv_dict.specs.Answers.{NumberBelow, Globals}
 use Rattle.model.specs.Answers.{AddAnswer}
-use Rattle.enter.specs.declared.AddResult.the-variants.{Known, Refused}
-use Rattle.enter.specs.Answers.{Knows}
+use Rattle.commit.specs.declared.AddResult.the-variants.{Known, Refused}
+use Rattle.commit.specs.Answers.{Knows}
 
 module _ (s : Sizes) (lists : Bytes) (k i : ℕ) (r : Number) (G : Globals s lists k i r) where
   pub knows-bad : r ≡ N.Bad → Knows s lists k i (Refused Unopened)

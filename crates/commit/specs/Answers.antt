@@ -8,8 +8,8 @@ use Rattle.meta_dv_dict.specs.Blocks.{Blocks, global}
 use Rattle.meta_dv_dict.specs.Tables.{BlocksAt}
 use Rattle.model.specs.Answers.{AddAnswer}
 use Rattle.memory.specs.Promises.{InBlocks}
-use Rattle.enter.specs.declared.AddResult.{AddResult}
-use Rattle.enter.specs.declared.AddResult.the-variants.{Fresh, Known, Refused}
+use Rattle.commit.specs.declared.AddResult.{AddResult}
+use Rattle.commit.specs.declared.AddResult.the-variants.{Fresh, Known, Refused}
 
 -- Document 01's answer.
 abbrev pub addedBy : AddResult → AddAnswer
