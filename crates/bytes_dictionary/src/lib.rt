@@ -2,8 +2,8 @@
 use bytes_buffer::Spot;
 use bytes_entry::Extent;
 use bytes_entry::NewEntry;
-use bytes_index::Key;
 use bytes_index::Span;
+use bytes_key::Key;
 use layout::COUNT;
 use layout::STRIDE;
 use layout::Sizes;
@@ -14,7 +14,7 @@ ghost use Rattle.words.specs.Words.{wordAt};
 ghost use Rattle.layout.specs.Sizes.{InRange, dictionaries, listBytes};
 ghost use Rattle.layout.specs.Fields.{countAt};
 ghost use Rattle.layout.specs.Header.{Lent};
-ghost use Rattle.bytes_index.specs.Search.{bytesIn, IsKey};
+ghost use Rattle.bytes_key.specs.Keys.{bytesIn, IsKey};
 ghost use Rattle.bytes_dictionary.specs.Written.{pagesAfter, listsAfter, HasRoom, roomOf};
 ghost use Rattle.bytes_dictionary.specs.Reading.{countIn, Looked};
 
@@ -75,7 +75,7 @@ pub fn insert(
     let Room::At { page, offset } = room_at(spot) else {
         return;
     };
-    let len = bytes_index::key_length(key, front, rest);
+    let len = bytes_key::key_length(key, front, rest);
     let lies = Extent { page, offset, len };
     bytes_entry::place_entry(pages, lists, s, key, x, lies, front, rest);
     match spot {

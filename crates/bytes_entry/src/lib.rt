@@ -1,5 +1,5 @@
 // Writes an entry: its key's bytes into the page, and its words into the lists.
-use bytes_index::Key;
+use bytes_key::Key;
 use layout::COUNT;
 use layout::ENTRY_NUMBERS;
 use layout::LENGTH;
@@ -13,7 +13,7 @@ ghost use lib.Seq.{sets};
 ghost use Rattle.layout.specs.Sizes.{InRange, dictionaries, pageSize, listBytes};
 ghost use Rattle.layout.specs.Fields.{entryWord, placeWord};
 ghost use Rattle.layout.specs.Header.{Lent};
-ghost use Rattle.bytes_index.specs.Search.{bytesIn};
+ghost use Rattle.bytes_key.specs.Keys.{bytesIn};
 ghost use Rattle.bytes_entry.specs.Written.{entryWritten};
 
 // Writes a key at the start of its page's tail: its front, and the rest behind it.

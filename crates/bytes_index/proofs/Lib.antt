@@ -3,4 +3,3 @@ pub mod Place
 pub mod Filled
 pub mod Index
 pub mod Stored
-pub mod Compared

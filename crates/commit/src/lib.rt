@@ -1,6 +1,6 @@
 // The answers of an add, the number of a name that is stored, and the writes of a plan. The memory may hold any bytes.
 use bytes_entry::NewEntry;
-use bytes_index::Key;
+use bytes_key::Key;
 use layout::Sizes;
 use meta_dv_dict::GlobalId;
 use meta_dv_dict::LocalId;
@@ -15,7 +15,7 @@ ghost use lib.ListN.{length};
 ghost use Rattle.fnv.specs.Fnv.{fnvOf};
 ghost use Rattle.layout.specs.Sizes.{InRange, kinds, listBytes};
 ghost use Rattle.layout.specs.Header.{Lent};
-ghost use Rattle.bytes_index.specs.Search.{bytesIn, IsKey};
+ghost use Rattle.bytes_key.specs.Keys.{bytesIn, IsKey};
 ghost use Rattle.bytes_buffer.specs.declared.Spot.the-variants.{NoPage};
 ghost use Rattle.bytes_dictionary.specs.Written.{HasRoom, pagesAfter, listsAfter};
 ghost use Rattle.model.specs.Answers.{AddAnswer};

@@ -18,7 +18,7 @@ use Rattle.layout.specs.Header.{Lent}
 use Rattle.bytes_buffer.specs.declared.Spot.{Spot}
 use Rattle.bytes_buffer.specs.Pages.{allPages}
 use Rattle.bytes_buffer.specs.Spots.{spotIn, untakenAfter}
-use Rattle.bytes_index.specs.declared.Key.{Key}
+use Rattle.bytes_key.specs.declared.Key.{Key}
 use Rattle.bytes_index.specs.Search.{Searched}
 use Rattle.bytes_index.specs.declared.Probe.the-variants.{Free}
 use Rattle.bytes_dictionary.specs.Written.{pagesAfter, listsAfter}

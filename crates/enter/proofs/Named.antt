@@ -16,7 +16,7 @@ use Rattle.layout.specs.Sizes.{kinds}
 use Rattle.layout.specs.Fields.{countAt}
 use Rattle.layout.specs.Header.{Lent}
 use Rattle.ranked_pair_dictionary.specs.FrequentId.{fid}
-use Rattle.bytes_index.specs.declared.Key.{Key}
+use Rattle.bytes_key.specs.declared.Key.{Key}
 use Rattle.bytes_index.specs.declared.Probe.{Probe}
 use Rattle.bytes_index.specs.declared.Probe.the-variants as P
 use Rattle.bytes_index.specs.Search.{Searched}

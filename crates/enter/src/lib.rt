@@ -1,7 +1,7 @@
 // An add of a name that is legal and not stored: a plan, and then all writes. The memory may hold any bytes.
 use bytes_dictionary::Counted;
-use bytes_index::Key;
 use bytes_index::Probe;
+use bytes_key::Key;
 use commit::AddResult;
 use commit::NewName;
 use layout::Sizes;
@@ -17,7 +17,7 @@ ghost use lib.ListN.{length};
 ghost use Rattle.fnv.specs.Fnv.{fnvOf};
 ghost use Rattle.layout.specs.Sizes.{kinds, pageSize};
 ghost use Rattle.layout.specs.Header.{Lent};
-ghost use Rattle.bytes_index.specs.Search.{bytesIn, IsKey};
+ghost use Rattle.bytes_key.specs.Keys.{bytesIn, IsKey};
 ghost use Rattle.model.specs.Names.{entered};
 ghost use Rattle.model.specs.Kinds.{row};
 ghost use Rattle.model.specs.Steps.{shapeRefusal};
@@ -42,7 +42,7 @@ fn enter_name(
     ensures { λ r. ⌜ EntersName s (now (pages .entry)) (now (lists .entry)) w (now (head .entry)) (bytesIn (w .key) (now (front .entry)) (now (rest .entry))) (addedBy r) (now (pages .exit)) (now (lists .exit)) ⌝ }
 {
     let key = w.key;
-    let len = bytes_index::key_length(key, front, rest);
+    let len = bytes_key::key_length(key, front, rest);
     match plan::plan_name(lists, s, w.k, w.newhead, w.f, head.len(), len) {
         Planned::Ready(x) => commit::commit(pages, lists, s, w, x, head, front, rest),
         Planned::Refused(why) => AddResult::Refused(why),

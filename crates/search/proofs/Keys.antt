@@ -16,7 +16,7 @@ use Rattle.string_dv_dict.proofs.Keys.{packed-key}
 use Rattle.layout.specs.declared.Sizes.{Sizes}
 use Rattle.layout.specs.Sizes.{InRange, limit, pageSize}
 use Rattle.layout.proofs.Ranges.{page-size, limit-fits}
-use Rattle.bytes_index.specs.Search.{keyBytes, IsKey}
+use Rattle.bytes_key.specs.Keys.{keyBytes, IsKey}
 use Rattle.model.specs.Names.{entered}
 use Rattle.model.specs.Kinds.{Way, splits, whole, packs, pairs, hasHeads, restBy, row}
 use Rattle.model.proofs.Table.{firstOnly}

@@ -1,7 +1,7 @@
 // The search for a name: its head, where its kind has heads, then its key in the kind's main dictionary. The memory may hold any bytes.
 use bytes_dictionary::EntryId;
-use bytes_index::Key;
 use bytes_index::Probe;
+use bytes_key::Key;
 use fnv::Scanned;
 use layout::Sizes;
 use meta_dv_dict::LocalId;
@@ -18,7 +18,8 @@ ghost use Rattle.utf8.specs.Text.{isText};
 ghost use Rattle.layout.specs.Sizes.{limit, kinds};
 ghost use Rattle.layout.specs.Header.{Lent};
 ghost use Rattle.ranked_pair_dictionary.specs.FrequentId.{fid, leadBytes};
-ghost use Rattle.bytes_index.specs.Search.{bytesIn, IsKey, Searched};
+ghost use Rattle.bytes_key.specs.Keys.{bytesIn, IsKey};
+ghost use Rattle.bytes_index.specs.Search.{Searched};
 ghost use Rattle.model.specs.Names.{entered};
 ghost use Rattle.model.specs.Kinds.{row};
 ghost use Rattle.model.specs.Steps.{shapeRefusal};

@@ -5,7 +5,7 @@ use native.Mathlib.Omega.{arith}
 use lib.ListN.{length}
 use Rattle.layout.specs.Sizes.{pageSize, listBytes}
 use Rattle.layout.proofs.Ranges.{page-size}
-use Rattle.bytes_index.specs.Search.{bytesIn}
+use Rattle.bytes_key.specs.Keys.{bytesIn}
 use Rattle.bytes_dictionary.specs.declared.Room.the-variants.{At}
 use Rattle.bytes_dictionary.specs.Written.{roomOf, IsSpot}
 use Rattle.bytes_dictionary.proofs.Written.{room-spot, room-fits, room-current, room-next, after-current, after-next, after-none}

@@ -5,7 +5,7 @@ use native.Mathlib.Omega.{arith}
 use lib.ListN.{length}
 use Rattle.layout.specs.Sizes.{pageBytes}
 use Rattle.layout.proofs.Ranges.{page-size, page-bytes, in-pages}
-use Rattle.bytes_index.specs.Search.{bytesIn}
+use Rattle.bytes_key.specs.Keys.{bytesIn}
 use borrow.Author.Needs.{needs}
 use Rattle.bytes_entry.proofs.place_entry.Statement.{statement}
 use Rattle.bytes_entry.proofs.place_entry.Tie as tie

@@ -2,7 +2,7 @@
 use Prim.Native.Nat.{_-_}
 use native.Mathlib.Omega.{arith}
 use Rattle.slices.proofs.Sets.{sets-mid}
-use Rattle.bytes_index.specs.Search.{bytesIn}
+use Rattle.bytes_key.specs.Keys.{bytesIn}
 use borrow.Author.Needs.{needs}
 use Rattle.bytes_entry.proofs.write_key.Statement.{statement}
 use Rattle.bytes_entry.proofs.write_key.Tie as tie

@@ -2,7 +2,7 @@
 use native.Mathlib.Omega.{arith}
 use lib.ListN.{length-take, length-drop}
 use Rattle.parts.specs.Parts.{bytesOf}
-use Rattle.bytes_index.proofs.Stored.{length-key}
+use Rattle.bytes_key.proofs.Fronts.{length-key}
 use Rattle.bytes_entry.proofs.Keys.{put-tail}
 use borrow.Author.Needs.{needs}
 use Rattle.bytes_entry.proofs.write_tail.Statement.{statement}

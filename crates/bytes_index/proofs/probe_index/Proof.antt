@@ -24,11 +24,12 @@ use Rattle.bytes_index.specs.declared.Span.the-variants.{At, Bad}
 use Rattle.bytes_index.specs.Place.{placeAfter}
 use Rattle.bytes_index.specs.Entries.{Addresses, Met, FreeAt}
 use Rattle.bytes_index.specs.Field.{entryField, SpanInside}
-use Rattle.bytes_index.specs.Search.{keyBytes, bytesIn, Agree}
+use Rattle.bytes_key.specs.Keys.{keyBytes, bytesIn, Agree}
 use Rattle.bytes_index.proofs.Span.{the-type}
 use Rattle.bytes_index.proofs.Place.{place-zero, place-next}
 use Rattle.bytes_index.proofs.Index.{PlacePassed, place-passed, meets, hit, never-nothing, never-past, never-out, never-full, missed}
-use Rattle.bytes_index.proofs.Stored.{key-fits, field-in, span-found, front-sized, not-front, not-all, all-bytes}
+use Rattle.bytes_key.proofs.Fronts.{key-fits, front-sized}
+use Rattle.bytes_index.proofs.Stored.{field-in, span-found, not-front, not-all, all-bytes}
 use Rattle.bytes_index.proofs.probe_index.Statement.{statement}
 use Rattle.bytes_index.proofs.probe_index.Tie as tie
 

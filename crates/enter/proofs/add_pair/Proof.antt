@@ -15,7 +15,8 @@ use Rattle.layout.specs.declared.Sizes.{Sizes}
 use Rattle.layout.specs.Sizes.{InRange, limit, pageSize}
 use Rattle.layout.proofs.Ranges.{limit-fits}
 use Rattle.bytes_index.specs.declared.Probe.{Probe}
-use Rattle.bytes_index.specs.Search.{keyBytes, Searched}
+use Rattle.bytes_key.specs.Keys.{keyBytes}
+use Rattle.bytes_index.specs.Search.{Searched}
 use Rattle.bytes_dictionary.specs.declared.Counted.{Counted}
 use Rattle.bytes_dictionary.specs.Reading.{countIn}
 use Rattle.bytes_dictionary.proofs.Reading.{counted-by}

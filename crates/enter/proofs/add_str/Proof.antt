@@ -13,7 +13,7 @@ use Rattle.parts.specs.declared.Mode.{Mode}
 use Rattle.parts.specs.declared.Mode.the-variants.{Raw}
 use Rattle.ranked_pair_dictionary.specs.FrequentId.{leadBytes}
 use Rattle.ranked_pair_dictionary.proofs.Laws.{length-fid, further-le}
-use Rattle.bytes_index.specs.Search.{keyBytes}
+use Rattle.bytes_key.specs.Keys.{keyBytes}
 use Rattle.layout.specs.Sizes.{pageSize}
 use Rattle.layout.proofs.Ranges.{limit-fits}
 use Rattle.model.specs.Names.{entered}

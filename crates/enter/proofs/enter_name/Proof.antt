@@ -3,7 +3,7 @@ use Prim.Native.Nat.{ℕ, _≤_}
 use mathlib.Core.Path.{_≡_, refl, sym, subst}
 use lib.ListN.{length}
 use Rattle.layout.specs.Sizes.{pageSize}
-use Rattle.bytes_index.specs.Search.{bytesIn}
+use Rattle.bytes_key.specs.Keys.{bytesIn}
 use Rattle.plan.specs.declared.Planned.{Planned}
 use Rattle.plan.specs.Plans.{Plans}
 use borrow.Author.Needs.{needs}

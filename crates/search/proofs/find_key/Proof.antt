@@ -4,7 +4,8 @@ use Prim.Native.Nat.{ℕ}
 use mathlib.Core.Path.{_≡_, sym, subst}
 use Rattle.bytes_index.specs.declared.Probe.{Probe}
 use Rattle.bytes_index.specs.declared.Probe.the-variants.{At}
-use Rattle.bytes_index.specs.Search.{bytesIn, Searched}
+use Rattle.bytes_key.specs.Keys.{bytesIn}
+use Rattle.bytes_index.specs.Search.{Searched}
 use Rattle.model.specs.Kinds.{row}
 use Rattle.model.proofs.Table.{main-below}
 use Rattle.search.proofs.find_key.Statement.{statement}

@@ -10,7 +10,7 @@ use Rattle.slices.specs.Bytes.{Bytes}
 use Rattle.fnv.specs.Fnv.{fnvOf}
 use Rattle.parts.specs.declared.Mode.the-variants.{Raw}
 use Rattle.utf8.specs.Text.{isText}
-use Rattle.bytes_index.specs.Search.{keyBytes}
+use Rattle.bytes_key.specs.Keys.{keyBytes}
 use Rattle.model.specs.Names.{entered}
 use Rattle.model.specs.Kinds.{row}
 use Rattle.model.proofs.Legal.{legal-shape}

@@ -11,9 +11,9 @@ use Rattle.parts.specs.declared.Mode.{Mode}
 use Rattle.parts.specs.declared.Mode.the-variants.{Raw, Tag}
 use Rattle.parts.specs.Parts.{bytesOf}
 use Rattle.parts.proofs.Mode.{the-type}
-use Rattle.bytes_index.proofs.Compared.{raw, at-once-not, at-once}
-use Rattle.bytes_index.proofs.agreeing_in.Statement.{statement}
-use Rattle.bytes_index.proofs.agreeing_in.Tie as tie
+use Rattle.bytes_key.proofs.Compared.{raw, at-once-not, at-once}
+use Rattle.bytes_key.proofs.agreeing_in.Statement.{statement}
+use Rattle.bytes_key.proofs.agreeing_in.Tie as tie
 
 enum-told : tie.Need-enum-told
 enum-told c = search needs

@@ -13,7 +13,7 @@ use Rattle.parts.specs.declared.Mode.{Mode}
 use Rattle.parts.specs.declared.Mode.the-variants.{Raw, Tag}
 use Rattle.parts.specs.Parts.{bytesOf}
 use Rattle.parts.proofs.Mode.{the-type}
-use Rattle.bytes_index.specs.Search.{Agree, Agreeing}
+use Rattle.bytes_key.specs.Keys.{Agree, Agreeing}
 
 -- A raw part is its own stored bytes.
 pub raw : (mode : Mode) (s : Bytes) → tagOf the-type mode ≡ 0 → bytesOf mode s ≡ s

@@ -10,10 +10,10 @@ use Rattle.slices.specs.Bytes.{Bytes}
 use Rattle.parts.specs.Parts.{bytesOf}
 use Rattle.words.specs.Words.{leAt}
 use Rattle.words.proofs.Laws.{le-agree, le-same}
-use Rattle.bytes_index.specs.Search.{Agree, Agreeing}
-use Rattle.bytes_index.proofs.Compared.{no-more, at-once-not, at-once}
-use Rattle.bytes_index.proofs.agreeing.Statement.{statement}
-use Rattle.bytes_index.proofs.agreeing.Tie as tie
+use Rattle.bytes_key.specs.Keys.{Agree, Agreeing}
+use Rattle.bytes_key.proofs.Compared.{no-more, at-once-not, at-once}
+use Rattle.bytes_key.proofs.agreeing.Statement.{statement}
+use Rattle.bytes_key.proofs.agreeing.Tie as tie
 
 -- The eight bytes that begin where `from` are left.
 module _ (pages : Bytes) (end : ℕ) (rest : Bytes) (from : ℕ) (eight : 8 ≤ from) (inside : from ≤ length rest) (fits : length rest ≤ end) where

@@ -5,11 +5,11 @@ use lib.ListN.{take, length-take}
 use Rattle.slices.specs.Bytes.{Bytes, sameBytes}
 use Rattle.parts.specs.declared.Mode.the-variants.{Raw}
 use Rattle.parts.specs.Parts.{bytesOf}
-use Rattle.bytes_index.proofs.Stored.{front-short, front-none, front-same}
-use Rattle.bytes_index.proofs.Compared.{raw}
+use Rattle.bytes_key.proofs.Fronts.{front-short, front-none, front-same}
+use Rattle.bytes_key.proofs.Compared.{raw}
 use borrow.Author.Needs.{needs}
-use Rattle.bytes_index.proofs.front_is.Statement.{statement}
-use Rattle.bytes_index.proofs.front_is.Tie as tie
+use Rattle.bytes_key.proofs.front_is.Statement.{statement}
+use Rattle.bytes_key.proofs.front_is.Tie as tie
 
 returns : tie.Need-returns
 returns c =

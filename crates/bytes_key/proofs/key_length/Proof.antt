@@ -1,8 +1,8 @@
 -- The lengths of the front and of the rest, both stored. Assumes nothing.
 use native.Mathlib.Omega.{arith}
-use Rattle.bytes_index.proofs.Stored.{length-key}
-use Rattle.bytes_index.proofs.key_length.Statement.{statement}
-use Rattle.bytes_index.proofs.key_length.Tie as tie
+use Rattle.bytes_key.proofs.Fronts.{length-key}
+use Rattle.bytes_key.proofs.key_length.Statement.{statement}
+use Rattle.bytes_key.proofs.key_length.Tie as tie
 
 measure-requires : tie.Need-measure-requires
 measure-requires c κs = let z = c .before .before in omega (arith, length-key (z .args .key) (z .args .front .now) (z .args .rest .now), z .pre)
