@@ -32,8 +32,7 @@ use Rattle.memory.proofs.Probes.{main-below, head-below}
 use Rattle.memory.proofs.Counts.{main-counted, next-count, lowest-is-known, spot-known}
 use Rattle.plan.specs.declared.Chosen.{Chosen}
 use Rattle.plan.specs.declared.Chosen.the-variants as R
-use Rattle.plan.specs.Steps.{spotChecked, chosenBy, Chooses}
-use Rattle.plan.proofs.Steps.{countWord}
+use Rattle.plan.specs.Steps.{spotChecked, chosenBy, Chooses, countWord, Counts, Uncounted, bad-count, full-list, bad-page}
 use Rattle.plan.specs.declared.Planned.the-variants as P
 use Rattle.plan.specs.Plans.{headSpotAt, headSpot, mainSpot, NoRoom, full, headless, pageless, blockless, Plans}
 
@@ -43,39 +42,37 @@ spot-legal (Next page) e = tt
 spot-legal NoPage e = let z : _≡_ {A = ℕ} 0 1 = cc in absurd (omega arith)
 spot-legal Bad e = let z : _≡_ {A = ℕ} 0 1 = cc in absurd (omega arith)
 
--- What was read first: the count of the names and the number h of the head, both below e, and the lowest untaken page.
-pub record Counts (s : Sizes) (lists : Bytes) (k h n u : ℕ) : Type 0 where
-  pub counted : countIn s (countWord lists k) ≡ C.Entries n
-  pub room : n < s .e
-  pub head-room : h < s .e
-  pub lowest : lowestOf s (wordAt lists untakenAt) ≡ L.Page u
-
 module _ (s : Sizes) (lists : Bytes) (k : ℕ) (new : Bool) (h size len : ℕ) (l : k < kinds) where
   -- ---- the refusals before a spot is planned
 
   number-is : {pages : Bytes} {st : State} (S : Stands s st pages lists) (n : ℕ) → countIn s (countWord lists k) ≡ C.Entries n → n ≡ length (st .part k .names)
   number-is {pages} {st} S n e = let f : C.Entries n ≡ C.Entries (length (st .part k .names)) = sym e ∙ main-counted S k l in cc
 
-  pub plans-uncounted : countIn s (countWord lists k) ≡ C.Bad → Plans s lists k new h size len (P.Refused W.Unopened)
+  plans-uncounted : countIn s (countWord lists k) ≡ C.Bad → Plans s lists k new h size len (P.Refused W.Unopened)
   plans-uncounted e =
       record {
         bounded = inl refl;
         right = λ pages st S. let f : C.Bad ≡ C.Entries (length (st .part k .names)) = sym e ∙ main-counted S k l in let z : _≡_ {A = ℕ} 0 1 = cc in absurd (omega arith);
       }
 
-  pub plans-full : (n : ℕ) → countIn s (countWord lists k) ≡ C.Entries n → (s .e ≤ n) ⊎ (s .e ≤ h) → Plans s lists k new h size len (P.Refused W.ListFull)
+  plans-full : (n : ℕ) → countIn s (countWord lists k) ≡ C.Entries n → (s .e ≤ n) ⊎ (s .e ≤ h) → Plans s lists k new h size len (P.Refused W.ListFull)
   plans-full n e o = record { bounded = inr refl; right = λ pages st S. full (go (number-is S n e) o) }
     where
       go : {m : ℕ} → n ≡ m → (s .e ≤ n) ⊎ (s .e ≤ h) → (s .e ≤ m) ⊎ (s .e ≤ h)
       go q (inl g) = inl (omega arith)
       go q (inr g) = inr g
 
-  pub plans-unpaged : lowestOf s (wordAt lists untakenAt) ≡ L.Bad → Plans s lists k new h size len (P.Refused W.Unopened)
+  plans-unpaged : lowestOf s (wordAt lists untakenAt) ≡ L.Bad → Plans s lists k new h size len (P.Refused W.Unopened)
   plans-unpaged e =
       record {
         bounded = inl refl;
         right = λ pages st S. let f : L.Bad ≡ L.Page (allPages (st .space)) = sym e ∙ lowest-is-known S in let z : _≡_ {A = ℕ} 0 1 = cc in absurd (omega arith);
       }
+
+  pub plans-roomless : (why : Refusal) → Uncounted s lists k h why → Plans s lists k new h size len (P.Refused why)
+  plans-roomless _ (bad-count e) = plans-uncounted e
+  plans-roomless _ (full-list n e o) = plans-full n e o
+  plans-roomless _ (bad-page e) = plans-unpaged e
 
   module _ (n u : ℕ) (F : Counts s lists k h n u) where
     room-is : {pages : Bytes} {st : State} → Stands s st pages lists → length (st .part k .names) < s .e

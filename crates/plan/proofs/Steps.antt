@@ -31,13 +31,9 @@ use Rattle.memory.specs.Stands.{Stands}
 use Rattle.memory.proofs.Counts.{main-counted, stamp-is}
 use Rattle.plan.specs.declared.Stamp.the-variants as T
 use Rattle.plan.specs.declared.Chosen.the-variants as R
-use Rattle.plan.specs.Steps.{blockRefused, Stamps, chosenBy, Chooses}
+use Rattle.plan.specs.Steps.{blockRefused, Stamps, chosenBy, Chooses, countWord}
 
 -- ---- the next stamp
-
--- The word of a kind's count.
-abbrev pub countWord : Bytes → ℕ → ℕ
-countWord lists k = wordAt lists (countAt (row k .mainAt))
 
 -- A count that was read in a kind's main dictionary.
 pub counted-main : (s : Sizes) (lists : Bytes) (k d : ℕ) (r x : Counted) → d ≡ row k .mainAt → r ≡ countIn s (wordAt lists (countAt d)) → r ≡ x

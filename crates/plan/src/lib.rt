@@ -12,7 +12,7 @@ ghost use mathlib.Core.Path.{_≡_};
 ghost use Prim.Native.Nat.{_≤_, _<_};
 ghost use lib.ListN.{length};
 ghost use Rattle.layout.specs.Sizes.{InRange, kinds, pageSize, listBytes};
-ghost use Rattle.plan.specs.Steps.{spotChecked, blockRefused, Stamps, Chooses};
+ghost use Rattle.plan.specs.Steps.{spotChecked, blockRefused, Stamps, Chooses, RoomIn};
 ghost use Rattle.plan.specs.Plans.{PlansHead, Plans};
 
 // A stamp for the order of the names. Bad: the memory is no dictionary's.
@@ -83,6 +83,29 @@ fn choose_block(lists: &[u8], s: Sizes, k: usize, n: usize) -> Chosen
     Chosen::Block { g, stamp }
 }
 
+// What is looked at before a spot is planned: the number of the name, and the lowest untaken page.
+enum Room {
+    Left { n: usize, untaken: usize },
+    Refused(Refusal),
+}
+
+// Looks whether the lists have room for a name of the kind k, and for a head with the number f.
+fn check_room(lists: &[u8], s: Sizes, k: usize, f: usize) -> Room
+    requires { ⌜ InRange s × (listBytes s ≤ length (now lists)) × (k < kinds) ⌝ }
+    ensures { λ r. ⌜ RoomIn s (now (lists .entry)) k f r ⌝ }
+{
+    let Counted::Entries(n) = bytes_dictionary::count(lists, s, names::main_dictionary(k)) else {
+        return Room::Refused(Refusal::Unopened);
+    };
+    if s.e <= n || s.e <= f {
+        return Room::Refused(Refusal::ListFull);
+    }
+    let Lowest::Page(untaken) = bytes_buffer::untaken(lists, s) else {
+        return Room::Refused(Refusal::Unopened);
+    };
+    Room::Left { n, untaken }
+}
+
 // Where a head goes. If no head is to be entered, its spot is NoPage, at which nothing is written.
 enum HeadPlanned {
     At(Spot),
@@ -137,39 +160,27 @@ pub fn plan_name(
     requires { ⌜ InRange s × (listBytes s ≤ length (now lists)) × (k < kinds) × (size ≤ pageSize s) × (len ≤ pageSize s) ⌝ }
     ensures { λ r. ⌜ Plans s (now (lists .entry)) k newhead f size len r ⌝ }
 {
-    let d = names::main_dictionary(k);
-    let Counted::Entries(n) = bytes_dictionary::count(lists, s, d) else {
-        return Planned::Refused(Refusal::Unopened);
-    };
-    if s.e <= n || s.e <= f {
-        return Planned::Refused(Refusal::ListFull);
-    }
-    let Lowest::Page(untaken) = bytes_buffer::untaken(lists, s) else {
-        return Planned::Refused(Refusal::Unopened);
-    };
-    match plan_head(lists, s, k, newhead, untaken, size) {
-        HeadPlanned::At(head) => {
-            let spot = bytes_buffer::plan(
-                lists,
-                s,
-                d,
-                bytes_buffer::untaken_after(untaken, head),
-                len,
-            );
-            if let Checked::Illegal(why) = check_spot(spot) {
-                return Planned::Refused(why);
+    match check_room(lists, s, k, f) {
+        Room::Left { n, untaken } => match plan_head(lists, s, k, newhead, untaken, size) {
+            HeadPlanned::At(head) => {
+                let next = bytes_buffer::untaken_after(untaken, head);
+                let spot = bytes_buffer::plan(lists, s, names::main_dictionary(k), next, len);
+                if let Checked::Illegal(why) = check_spot(spot) {
+                    return Planned::Refused(why);
+                }
+                match choose_block(lists, s, k, n) {
+                    Chosen::Block { g, stamp } => Planned::Ready(Plan {
+                        n,
+                        head,
+                        spot,
+                        g,
+                        stamp,
+                    }),
+                    Chosen::Refused(why) => Planned::Refused(why),
+                }
             }
-            match choose_block(lists, s, k, n) {
-                Chosen::Block { g, stamp } => Planned::Ready(Plan {
-                    n,
-                    head,
-                    spot,
-                    g,
-                    stamp,
-                }),
-                Chosen::Refused(why) => Planned::Refused(why),
-            }
-        }
-        HeadPlanned::Refused(why) => Planned::Refused(why),
+            HeadPlanned::Refused(why) => Planned::Refused(why),
+        },
+        Room::Refused(why) => Planned::Refused(why),
     }
 }

@@ -6,7 +6,8 @@ use native.Mathlib.Numerals.{add-one}
 use Rattle.layout.specs.Sizes.{kinds}
 use Rattle.bytes_buffer.specs.Pages.{sum}
 use Rattle.bytes_dictionary.proofs.Reading.{counted-by}
-use Rattle.plan.proofs.Steps.{countWord, counted-main, sum-bound, sum-few, stamps-bad, stamps-sum}
+use Rattle.plan.specs.Steps.{countWord}
+use Rattle.plan.proofs.Steps.{counted-main, sum-bound, sum-few, stamps-bad, stamps-sum}
 use borrow.Author.Needs.{needs}
 use Rattle.plan.proofs.next_stamp.Statement.{statement}
 use Rattle.plan.proofs.next_stamp.Tie as tie

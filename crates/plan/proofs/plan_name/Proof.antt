@@ -1,134 +1,76 @@
 -- Each answer by its law. Assumes nothing.
 use Prim.Native.Nat.{ℕ}
 use mathlib.Core.Path.{_≡_, sym, ap, subst, _∙_}
-use mathlib.Core.Logic.{⊎-elim, inl, inr}
 use native.Mathlib.Omega.{arith}
-use borrow.Author.Tests.{leb-true, leb-false}
 use Rattle.words.specs.Words.{wordAt}
 use Rattle.bytes_buffer.specs.Spots.{spotIn, untakenAfter, InPages}
 use Rattle.bytes_buffer.proofs.Spots.{lowest-page}
-use Rattle.bytes_dictionary.specs.declared.Counted.the-variants.{Entries}
-use Rattle.bytes_dictionary.specs.Reading.{countIn}
 use Rattle.bytes_dictionary.specs.Written.{IsSpot}
 use Rattle.model.specs.Kinds.{row}
 use Rattle.plan.specs.declared.HeadPlanned.the-variants.{At}
-use Rattle.plan.specs.Steps.{Chooses}
+use Rattle.plan.specs.Steps.{Chooses, Counts, RoomIn}
 use Rattle.plan.specs.Plans.{PlansHead}
-use Rattle.plan.proofs.Steps.{countWord, counted-main}
-use Rattle.plan.proofs.Plans.{spot-legal, Counts, plans-uncounted, plans-full, plans-unpaged, plans-headless, plans-pageless, plans-blockless, plans-ready}
+use Rattle.plan.proofs.Plans.{spot-legal, plans-roomless, plans-headless, plans-pageless, plans-blockless, plans-ready}
 use borrow.Author.Needs.{needs}
 use Rattle.plan.proofs.plan_name.Statement.{statement}
 use Rattle.plan.proofs.plan_name.Tie as tie
 
--- The count that was read.
-counted : (c : tie.After-n) →
-    let a = c .before .before .before .before .before .args in
-    countIn (a .s) (countWord (a .lists .now) (a .k)) ≡ Entries (c .n .given .0 .0)
-counted c =
-    let f = c .before .before in
-    let a = f .before .before .before .args in
-    counted-main (a .s) (a .lists .now) (a .k) _ _ _ (f .before .main-dictionary .ensures .0) (f .count .ensures) (c .n .given .1)
+-- What was looked at first.
+abbrev entered : tie.After-n → tie.Start
+entered c = c .before .before .before .before
 
--- Where the kind's count and its head's number were looked at.
-abbrev counts-at : tie.After-untaken2 → tie.After-n
-counts-at c = c .before .before .before .before .before .before .before .before
-
-abbrev entered : tie.After-untaken2 → tie.Start
-entered c = counts-at c .before .before .before .before .before
-
-read : (c : tie.After-untaken2) →
+read : (c : tie.After-n) →
     let a = entered c .args in
-    Counts (a .s) (a .lists .now) (a .k) (a .f) (counts-at c .n .given .0 .0) (c .untaken2 .given .0 .0)
+    Counts (a .s) (a .lists .now) (a .k) (a .f) (c .n .given .0 .0) (c .n .given .0 .1 .0)
 read c =
-    let o = c .before .before .before in
-    record {
-      counted = counted (counts-at c);
-      room = omega (arith, o .before .before .if1 .left);
-      head-room = leb-false _ _ (o .if2 .left);
-      lowest = sym (c .before .before .untaken .ensures) ∙ c .untaken2 .given .1;
-    }
+    let a = entered c .args in
+    subst (RoomIn (a .s) (a .lists .now) (a .k) (a .f)) (c .n .given .1) (c .before .before .check-room .ensures)
 
 -- The head's spot as it was planned.
-abbrev paged : tie.After-head → tie.After-untaken2
+abbrev paged : tie.After-head → tie.After-n
 paged c = c .before .before .before .before
 
 head-planned : (c : tie.After-head) →
     let u = paged c in
     let a = entered u .args in
-    PlansHead (a .s) (a .lists .now) (a .k) (a .newhead) (u .untaken2 .given .0 .0) (a .size) (At (c .head .given .0 .0))
+    PlansHead (a .s) (a .lists .now) (a .k) (a .newhead) (u .n .given .0 .1 .0) (a .size) (At (c .head .given .0 .0))
 head-planned c =
     let u = paged c in
     let a = entered u .args in
-    subst (PlansHead (a .s) (a .lists .now) (a .k) (a .newhead) (u .untaken2 .given .0 .0) (a .size)) (c .head .given .1) (c .before .before .plan-head .ensures)
+    subst (PlansHead (a .s) (a .lists .now) (a .k) (a .newhead) (u .n .given .0 .1 .0) (a .size)) (c .head .given .1) (c .before .before .plan-head .ensures)
 
 -- And the key's, after it.
 abbrev headed : tie.After-plan → tie.After-head
-headed c = c .before .before .before
+headed c = c .before .before .before .before
 
 main-planned : (c : tie.After-plan) →
     let u = paged (headed c) in
     let a = entered u .args in
-    spotIn (a .s) (wordAt (a .lists .now)) (row (a .k) .mainAt) (untakenAfter (u .untaken2 .given .0 .0) (headed c .head .given .0 .0)) (a .len) ≡ c .plan .result
+    spotIn (a .s) (wordAt (a .lists .now)) (row (a .k) .mainAt) (untakenAfter (u .n .given .0 .1 .0) (headed c .head .given .0 .0)) (a .len) ≡ c .plan .result
 main-planned c =
     let u = paged (headed c) in
     let a = entered u .args in
-    let d = counts-at u .before .before .before .main-dictionary in
-    ap (λ (j : ℕ). spotIn (a .s) (wordAt (a .lists .now)) j (untakenAfter (u .untaken2 .given .0 .0) (headed c .head .given .0 .0)) (a .len)) (sym (d .ensures .0))
-    ∙ ap (λ (v : ℕ). spotIn (a .s) (wordAt (a .lists .now)) (d .result) v (a .len)) (sym (c .before .untaken-after .ensures))
+    let d = c .before .main-dictionary in
+    ap (λ (j : ℕ). spotIn (a .s) (wordAt (a .lists .now)) j (untakenAfter (u .n .given .0 .1 .0) (headed c .head .given .0 .0)) (a .len)) (sym (d .ensures .0))
+    ∙ ap (λ (v : ℕ). spotIn (a .s) (wordAt (a .lists .now)) (d .result) v (a .len)) (sym (c .before .before .untaken-after .ensures))
     ∙ sym (c .plan .ensures .0)
 
 main-inside : (c : tie.After-plan) →
     let u = paged (headed c) in
     let a = entered u .args in
-    InPages (a .s) (untakenAfter (u .untaken2 .given .0 .0) (headed c .head .given .0 .0)) (a .len) (c .plan .result)
+    InPages (a .s) (untakenAfter (u .n .given .0 .1 .0) (headed c .head .given .0 .0)) (a .len) (c .plan .result)
 main-inside c =
     let a = entered (paged (headed c)) .args in
-    subst (λ (v : ℕ). InPages (a .s) v (a .len) (c .plan .result)) (c .before .untaken-after .ensures) (c .plan .ensures .1)
+    subst (λ (v : ℕ). InPages (a .s) v (a .len) (c .plan .result)) (c .before .before .untaken-after .ensures) (c .plan .ensures .1)
 
-main-spotted : (c : tie.After-enum-told3) → IsSpot (c .before .before .before .plan .result)
-main-spotted c = spot-legal (c .before .before .before .plan .result) (sym (c .before .before .check-spot .ensures) ∙ c .enum-told3 .given .1)
+main-spotted : (c : tie.After-enum-told) → IsSpot (c .before .before .before .plan .result)
+main-spotted c = spot-legal (c .before .before .before .plan .result) (sym (c .before .before .check-spot .ensures) ∙ c .enum-told .given .1)
 
-main-dictionary-requires : tie.Need-main-dictionary-requires
-main-dictionary-requires c κs = search needs
-
-count-requires : tie.Need-count-requires
-count-requires c κs = search needs
+check-room-requires : tie.Need-check-room-requires
+check-room-requires c κs = search needs
 
 enum-known-n : tie.Need-enum-known-n
 enum-known-n c = search needs
-
-enum-told : tie.Need-enum-told
-enum-told c = search needs
-
-returns : tie.Need-returns
-returns c =
-    let f = c .before .before in
-    let z = f .before .before .before in
-    let a = z .args in
-    plans-uncounted (a .s) (a .lists .now) (a .k) (a .newhead) (a .f) (a .size) (a .len) (z .pre .2)
-    (counted-main (a .s) (a .lists .now) (a .k) _ _ _ (f .before .main-dictionary .ensures .0) (f .count .ensures) (c .enum-told .given .1))
-
-returns-2 : tie.Need-returns-2
-returns-2 c =
-    let n = c .before .before .before in
-    let z = n .before .before .before .before .before in
-    plans-full _ _ _ _ _ _ _ (z .pre .2) _ (counted n) (⊎-elim (λ x. inl (x .taken)) (λ x. inr (leb-true _ _ (x .2 .taken))) (c .if1 .came))
-
-untaken-requires : tie.Need-untaken-requires
-untaken-requires c κs = search needs
-
-enum-known-untaken : tie.Need-enum-known-untaken
-enum-known-untaken c = search needs
-
-enum-told-2 : tie.Need-enum-told-2
-enum-told-2 c = search needs
-
-returns-3 : tie.Need-returns-3
-returns-3 c =
-    let u = c .before .before in
-    let n = u .before .before .before .before .before .before in
-    let z = n .before .before .before .before .before in
-    plans-unpaged _ _ _ _ _ _ _ (z .pre .2) (sym (u .untaken .ensures) ∙ c .enum-told2 .given .1)
 
 plan-head-requires : tie.Need-plan-head-requires
 plan-head-requires c κs = search needs
@@ -141,6 +83,9 @@ untaken-after-requires c κs =
     let u = paged (c .before) in
     omega (arith, lowest-page _ _ _ (read u .lowest) .1, entered u .pre .0 .n)
 
+main-dictionary-requires : tie.Need-main-dictionary-requires
+main-dictionary-requires c κs = search needs
+
 plan-requires : tie.Need-plan-requires
 plan-requires c κs = search needs
 
@@ -150,16 +95,16 @@ check-spot-requires c κs = search needs
 enum-known-why : tie.Need-enum-known-why
 enum-known-why c = search needs
 
-returns-4 : tie.Need-returns-4
-returns-4 c =
+returns : tie.Need-returns
+returns c =
     let d = c .before .before .before in
     let h = headed (d .before) in
     let u = paged h in
     let p = head-planned h in
     plans-pageless _ _ _ _ _ _ _ (entered u .pre .2) _ _ (read u) _ (p .0) (p .1) _ (main-planned (d .before)) _ (sym (d .check-spot .ensures) ∙ c .before .why .given .1)
 
-enum-told-3 : tie.Need-enum-told-3
-enum-told-3 c = search needs
+enum-told : tie.Need-enum-told
+enum-told c = search needs
 
 choose-block-requires : tie.Need-choose-block-requires
 choose-block-requires c κs =
@@ -175,8 +120,11 @@ enum-known-why-2 c = search needs
 enum-known-why-3 : tie.Need-enum-known-why-3
 enum-known-why-3 c = search needs
 
-returns-5 : tie.Need-returns-5
-returns-5 c =
+enum-known-why-4 : tie.Need-enum-known-why-4
+enum-known-why-4 c = search needs
+
+returns-2 : tie.Need-returns-2
+returns-2 c =
     let r = c .before .before .before in
     let q = r .before .before .before .before in
     let h = headed q in
@@ -185,8 +133,8 @@ returns-5 c =
     plans-ready _ _ _ _ _ _ _ (entered u .pre .2) _ _ (read u) _ (p .0) (p .1) _ (main-planned q) (main-spotted (r .before)) _ _ (entered u .pre .4) (p .2) (main-inside q)
     (subst (Chooses _ _ _ _) (c .before .g .given .1) (r .choose-block .ensures))
 
-returns-6 : tie.Need-returns-6
-returns-6 c =
+returns-3 : tie.Need-returns-3
+returns-3 c =
     let r = c .before .before .before in
     let q = r .before .before .before .before in
     let h = headed q in
@@ -195,40 +143,42 @@ returns-6 c =
     plans-blockless _ _ _ _ _ _ _ (entered u .pre .2) _ _ (read u) _ (p .0) (p .1) _ (main-planned q) (main-spotted (r .before)) _
     (subst (Chooses _ _ _ _) (c .before .why2 .given .1) (r .choose-block .ensures))
 
-returns-7 : tie.Need-returns-7
-returns-7 c =
+returns-4 : tie.Need-returns-4
+returns-4 c =
     let r = c .before .before .before in
     let u = r .before .before in
     let a = entered u .args in
-    let p = subst (PlansHead (a .s) (a .lists .now) (a .k) (a .newhead) (u .untaken2 .given .0 .0) (a .size)) (c .before .why3 .given .1) (r .plan-head .ensures) in
+    let p = subst (PlansHead (a .s) (a .lists .now) (a .k) (a .newhead) (u .n .given .0 .1 .0) (a .size)) (c .before .why3 .given .1) (r .plan-head .ensures) in
     plans-headless _ _ _ _ _ _ _ (entered u .pre .2) _ _ (read u) _ (p .0) (p .1)
+
+returns-5 : tie.Need-returns-5
+returns-5 c =
+    let r = c .before .before .before in
+    let z = r .before .before in
+    let a = z .args in
+    plans-roomless _ _ _ _ _ _ _ (z .pre .2) _ (subst (RoomIn (a .s) (a .lists .now) (a .k) (a .f)) (c .before .why4 .given .1) (r .check-room .ensures))
 
 pub plan-name-spec : {M : Type 1} → statement M
 plan-name-spec =
     tie.close
     (tie.spec
-    main-dictionary-requires
-    count-requires
+    check-room-requires
     enum-known-n
-    enum-told
-    returns
-    returns-2
-    untaken-requires
-    enum-known-untaken
-    enum-told-2
-    returns-3
     plan-head-requires
     enum-known-head
     untaken-after-requires
+    main-dictionary-requires
     plan-requires
     check-spot-requires
     enum-known-why
-    returns-4
-    enum-told-3
+    returns
+    enum-told
     choose-block-requires
     enum-known-g
     enum-known-why-2
     enum-known-why-3
-    returns-5
-    returns-6
-    returns-7)
+    enum-known-why-4
+    returns-2
+    returns-3
+    returns-4
+    returns-5)
