@@ -1,8 +1,8 @@
 // The leaf rules. Each function makes one call and prints it with its answer, on one line.
 use crate::show;
-use numbers::NamedictUnpacked;
-use numbers::NamedictValue;
-use numbers::NamedictWritten;
+use leaf_numbers::NamedictUnpacked;
+use leaf_numbers::NamedictValue;
+use leaf_numbers::NamedictWritten;
 
 // Prints a rule's name and the part that it is given.
 fn given(rule: &[u8], s: &[u8]) {

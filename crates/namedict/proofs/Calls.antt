@@ -15,7 +15,8 @@ use Rattle.numbers.specs.Numbers.{openNumber, addNumbers, findNumbers, nameNumb
 use Rattle.numbers.specs.Answers.{openOf, addOf, findOf, readOf, countOf}
 use Rattle.namedict.specs.Returned.{OpenReturned, Returned, add, find, read, count, Exported, ExportedBrings, ExportedBrought, eventOf}
 use Rattle.namedict.specs.Demand3.{effectIn, effectsIn}
-use Rattle.numbers.proofs.Tell.{refusal-back, open-back, add-back, find-back, read-back, count-back}
+use Rattle.refusals.proofs.Back.{refusal-back}
+use Rattle.numbers.proofs.Tell.{open-back, add-back, find-back, read-back, count-back}
 
 -- ---- one answer: its numbers, the answer back from them, and what is promised of it
 

@@ -1,11 +1,11 @@
 // The exported entries, for C and Rust: each calls the library and gives its answer's numbers. include/namedict.h declares them.
+use leaf_numbers::NamedictUnpacked;
+use leaf_numbers::NamedictValue;
+use leaf_numbers::NamedictWritten;
 use meta_dv_dict::GlobalId;
 use numbers::NamedictCounted;
 use numbers::NamedictName;
 use numbers::NamedictNumbered;
-use numbers::NamedictUnpacked;
-use numbers::NamedictValue;
-use numbers::NamedictWritten;
 ghost use mathlib.Core.Path.{_≡_};
 ghost use lib.ListN.{length};
 ghost use Rattle.utf8.specs.Text.{isText};
@@ -14,7 +14,7 @@ ghost use Rattle.ranked_pair_dictionary.specs.FrequentId.{writeFidAnswer, write
 ghost use Rattle.string_dv_dict.specs.Answers.{packAnswer, packBuffer};
 ghost use Rattle.string_dv_dict_unpack.specs.Answers.{unpackAnswer, unpackBuffer};
 ghost use Rattle.model.specs.Names.{entered};
-ghost use Rattle.numbers.specs.Numbers.{yesNo, writtenNumbers, valueNumbers, unpackedNumbers};
+ghost use Rattle.leaf_numbers.specs.Numbers.{yesNo, writtenNumbers, valueNumbers, unpackedNumbers};
 ghost use Rattle.namedict.specs.Returned.{OpenReturned, AddReturned, FindReturned, ReadReturned, CountReturned};
 
 // ---- the leaf rules
@@ -25,7 +25,7 @@ pub extern "C" fn namedict_is_text(bytes: &[u8]) -> u64
     ensures { λ r. ⌜ r ≡ yesNo (isText (now (bytes .entry))) ⌝ }
     ensures kept { λ _. ⌜ now (bytes .exit) ≡ now (bytes .entry) ⌝ }
 {
-    numbers::yes_no(utf8::is_text(bytes))
+    leaf_numbers::yes_no(utf8::is_text(bytes))
 }
 
 // The length of an IRI's head, 0 where it has none.
@@ -34,7 +34,7 @@ pub extern "C" fn namedict_split_iri(iri: &[u8]) -> u64
     ensures { λ r. ⌜ r ≡ lengthOf (headOf (now (iri .entry))) ⌝ }
     ensures kept { λ _. ⌜ now (iri .exit) ≡ now (iri .entry) ⌝ }
 {
-    numbers::head_number(ranked_pair_iri_dv_dict::rfind_hashslash_plus(iri))
+    leaf_numbers::head_number(ranked_pair_iri_dv_dict::rfind_hashslash_plus(iri))
 }
 
 // Writes a frequent id at the buffer's start.
@@ -42,7 +42,7 @@ pub extern "C" fn namedict_split_iri(iri: &[u8]) -> u64
 pub extern "C" fn namedict_write_fid(value: u64, buffer: &mut [u8]) -> NamedictWritten
     ensures { λ r. ⌜ (r ≡ writtenNumbers (writeFidAnswer value (length (now (buffer .entry))))) × (now (buffer .exit) ≡ writeFidBuffer value (now (buffer .entry))) ⌝ }
 {
-    numbers::written_numbers(ranked_pair_dictionary::write_frequent_id(value as usize, buffer))
+    leaf_numbers::written_numbers(ranked_pair_dictionary::write_frequent_id(value as usize, buffer))
 }
 
 // Reads the frequent id in front of the bytes.
@@ -51,7 +51,7 @@ pub extern "C" fn namedict_read_fid(bytes: &[u8]) -> NamedictValue
     ensures { λ r. ⌜ r ≡ valueNumbers (readFidAnswer (now (bytes .entry))) ⌝ }
     ensures kept { λ _. ⌜ now (bytes .exit) ≡ now (bytes .entry) ⌝ }
 {
-    numbers::value_numbers(ranked_pair_dictionary::read_frequent_id(bytes))
+    leaf_numbers::value_numbers(ranked_pair_dictionary::read_frequent_id(bytes))
 }
 
 // Packs a text and its tag at the buffer's start.
@@ -60,7 +60,7 @@ pub extern "C" fn namedict_pack(text: &[u8], tag: &[u8], buffer: &mut [u8]) -> N
     ensures { λ r. ⌜ (r ≡ writtenNumbers (packAnswer (now (text .entry)) (now (tag .entry)) (length (now (buffer .entry))))) × (now (buffer .exit) ≡ packBuffer (now (text .entry)) (now (tag .entry)) (now (buffer .entry))) ⌝ }
     ensures kept { λ _. ⌜ (now (text .exit) ≡ now (text .entry)) × (now (tag .exit) ≡ now (tag .entry)) ⌝ }
 {
-    numbers::written_numbers(string_dv_dict::two_strings_to_one(text, tag, buffer))
+    leaf_numbers::written_numbers(string_dv_dict::two_strings_to_one(text, tag, buffer))
 }
 
 // Unpacks a form: the text at the buffer's start, the tag behind it.
@@ -69,7 +69,7 @@ pub extern "C" fn namedict_unpack(packed: &[u8], buffer: &mut [u8]) -> NamedictU
     ensures { λ r. ⌜ (r ≡ unpackedNumbers (unpackAnswer (now (packed .entry)) (length (now (buffer .entry))))) × (now (buffer .exit) ≡ unpackBuffer (now (packed .entry)) (now (buffer .entry))) ⌝ }
     ensures kept { λ _. ⌜ now (packed .exit) ≡ now (packed .entry) ⌝ }
 {
-    numbers::unpacked_numbers(string_dv_dict_unpack::one_string_to_two(packed, buffer))
+    leaf_numbers::unpacked_numbers(string_dv_dict_unpack::one_string_to_two(packed, buffer))
 }
 
 // ---- the dictionary

@@ -1,40 +1,13 @@
--- The numbers that an exported entry answers for each answer of the library: a refusal's number with zeros, or 0 and the values. Assumes nothing.
+-- The numbers that an exported entry of the dictionary answers for each answer of the library: a refusal's number with zeros, or 0 and the values. Assumes nothing.
 use Prim.Native.Nat.{ℕ}
-use mathlib.Core.Bool.{Bool, true, false}
 use Rattle.refusals.specs.declared.Refusal.{Refusal}
 use Rattle.refusals.specs.Numbers.{refusalNumber}
-use Rattle.refusals.specs.declared.Written.{Written}
-use Rattle.refusals.specs.declared.Written.the-variants as W
-use Rattle.ranked_pair_dictionary.specs.declared.FrequentId.{FrequentId}
-use Rattle.ranked_pair_dictionary.specs.declared.FrequentId.the-variants as F
-use Rattle.string_dv_dict_unpack.specs.declared.Unpacked.{Unpacked}
-use Rattle.string_dv_dict_unpack.specs.declared.Unpacked.the-variants as U
 use Rattle.model.specs.Answers.{OpenAnswer, AddAnswer, FindAnswer, ReadAnswer, CountAnswer}
 use Rattle.numbers.specs.declared.NamedictNumbered.{NamedictNumbered}
 use Rattle.numbers.specs.declared.NamedictName.{NamedictName}
 use Rattle.numbers.specs.declared.NamedictCounted.{NamedictCounted}
-use Rattle.numbers.specs.declared.NamedictWritten.{NamedictWritten}
-use Rattle.numbers.specs.declared.NamedictValue.{NamedictValue}
-use Rattle.numbers.specs.declared.NamedictUnpacked.{NamedictUnpacked}
 
--- 1 yes, 0 no.
-abbrev pub yesNo : Bool → ℕ
-yesNo true = 1
-yesNo false = 0
-
-abbrev pub writtenNumbers : Written → NamedictWritten
-writtenNumbers (W.Length n) = record { refusal = 0; length = n }
-writtenNumbers (W.Refused why) = record { refusal = refusalNumber why; length = 0 }
-
-abbrev pub valueNumbers : FrequentId → NamedictValue
-valueNumbers (F.Value v n) = record { refusal = 0; value = v; length = n }
-valueNumbers (F.Refused why) = record { refusal = refusalNumber why; value = 0; length = 0 }
-
-abbrev pub unpackedNumbers : Unpacked → NamedictUnpacked
-unpackedNumbers (U.Lengths m n) = record { refusal = 0; «text_len» = m; «tag_len» = n }
-unpackedNumbers (U.Refused why) = record { refusal = refusalNumber why; «text_len» = 0; «tag_len» = 0 }
-
--- ---- the dictionary: a word says which answer, 0 none, 1 fresh, 2 known, 4 name
+-- A word says which answer: 0 none, 1 fresh, 2 known, 4 name.
 
 abbrev pub openNumber : OpenAnswer → ℕ
 openNumber OpenAnswer.done = 0

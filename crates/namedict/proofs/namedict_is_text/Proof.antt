@@ -1,6 +1,6 @@
 -- The answer of the text check, as a number. Assumes nothing.
 use mathlib.Core.Path.{refl, ap, _∙_}
-use Rattle.numbers.specs.Numbers.{yesNo}
+use Rattle.leaf_numbers.specs.Numbers.{yesNo}
 use borrow.Author.Needs.{needs}
 use Rattle.namedict.proofs.namedict_is_text.Statement.{statement}
 use Rattle.namedict.proofs.namedict_is_text.Tie as tie

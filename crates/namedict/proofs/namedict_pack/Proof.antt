@@ -1,6 +1,6 @@
 -- The numbers of a packing's answer, and its buffer. Assumes nothing.
 use mathlib.Core.Path.{refl, ap, _∙_}
-use Rattle.numbers.specs.Numbers.{writtenNumbers}
+use Rattle.leaf_numbers.specs.Numbers.{writtenNumbers}
 use borrow.Author.Needs.{needs}
 use Rattle.namedict.proofs.namedict_pack.Statement.{statement}
 use Rattle.namedict.proofs.namedict_pack.Tie as tie

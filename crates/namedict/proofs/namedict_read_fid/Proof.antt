@@ -1,6 +1,6 @@
 -- The numbers of a reading's answer. Assumes nothing.
 use mathlib.Core.Path.{refl, ap, _∙_}
-use Rattle.numbers.specs.Numbers.{valueNumbers}
+use Rattle.leaf_numbers.specs.Numbers.{valueNumbers}
 use borrow.Author.Needs.{needs}
 use Rattle.namedict.proofs.namedict_read_fid.Statement.{statement}
 use Rattle.namedict.proofs.namedict_read_fid.Tie as tie

@@ -1,6 +1,6 @@
 -- The numbers of an unpacking's answer, and its buffer. Assumes nothing.
 use mathlib.Core.Path.{refl, ap, _∙_}
-use Rattle.numbers.specs.Numbers.{unpackedNumbers}
+use Rattle.leaf_numbers.specs.Numbers.{unpackedNumbers}
 use borrow.Author.Needs.{needs}
 use Rattle.namedict.proofs.namedict_unpack.Statement.{statement}
 use Rattle.namedict.proofs.namedict_unpack.Tie as tie

@@ -1,6 +1,6 @@
 -- The numbers of a writing's answer, and its buffer. Assumes nothing.
 use mathlib.Core.Path.{ap, _∙_}
-use Rattle.numbers.specs.Numbers.{writtenNumbers}
+use Rattle.leaf_numbers.specs.Numbers.{writtenNumbers}
 use borrow.Author.Needs.{needs}
 use Rattle.namedict.proofs.namedict_write_fid.Statement.{statement}
 use Rattle.namedict.proofs.namedict_write_fid.Tie as tie
