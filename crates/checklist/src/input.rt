@@ -184,6 +184,33 @@ fn cut_short(t: Tally, full: bool, first: u8) -> Tally {
     report::refused(t, 5)
 }
 
+// What one turn leaves: the tally, and how many bytes at the buffer's front are the start of a line.
+struct Ran {
+    tally: Tally,
+    kept: usize,
+}
+
+// Runs the whole lines among the first `end` bytes of the buffer.
+fn turn(
+    task: Task,
+    t: Tally,
+    buf: &mut [u8],
+    end: usize,
+    pages: &mut Pages,
+    lists: &mut Lists,
+    numbers: &mut Numbers,
+    first_lines: &mut Numbers,
+) -> Ran
+    requires { ⌜ (0 < length (now buf)) × (end ≤ length (now buf)) ⌝ }
+    ensures { λ r. ⌜ r .kept ≤ length (now (buf .entry)) ⌝ }
+{
+    let n = whole(buf, end);
+    let cut = cut_short(t, end - n == buf.len(), buf[0]);
+    let tally = each(task, cut, &buf[..n], pages, lists, numbers, first_lines);
+    let kept = keep(buf, n, end);
+    Ran { tally, kept }
+}
+
 // Runs the lines of an open file through a buffer. The loop must have an end, but nothing says that a file has one. So the turns are counted
 // down from a number that no run uses up.
 fn through(
@@ -198,7 +225,6 @@ fn through(
     requires { ⌜ 0 < length (now buf) ⌝ }
 {
     let mut t = report::none(true);
-    // How many bytes at the buffer's front are the start of a line.
     let mut kept = 0;
     let mut turns = u64::MAX;
     while turns > 0 {
@@ -212,10 +238,9 @@ fn through(
         if !x.more {
             return each(task, t, &buf[..end], pages, lists, numbers, first_lines);
         }
-        let n = whole(buf, end);
-        t = cut_short(t, end - n == buf.len(), buf[0]);
-        t = each(task, t, &buf[..n], pages, lists, numbers, first_lines);
-        kept = keep(buf, n, end);
+        let y = turn(task, t, buf, end, pages, lists, numbers, first_lines);
+        t = y.tally;
+        kept = y.kept;
     }
     t
 }

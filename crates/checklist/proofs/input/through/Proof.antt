@@ -1,6 +1,6 @@
 -- What is kept of the buffer is never longer than the buffer. The turns left are the measure. Assumes nothing.
 use mathlib.Core.Path.{_≡_}
-use Prim.Native.Nat.{_≤_, _-_}
+use Prim.Native.Nat.{_≤_}
 use native.Mathlib.Omega.{arith}
 use lib.ListN.{length, length-take}
 use borrow.Author.Needs.{needs}
@@ -8,11 +8,11 @@ use Rattle.checklist.proofs.input.through.Statement.{statement}
 use Rattle.checklist.proofs.input.through.Tie as tie
 
 abbrev Inv-loop : tie.InvT-loop
-Inv-loop fd buf₀ task pages₀ lists₀ numbers₀ first-lines₀ t₀ kept₀ turns₀ t14 t15 buf pages lists numbers first-lines t kept turns =
+Inv-loop fd buf₀ task pages₀ lists₀ numbers₀ first-lines₀ t₀ kept₀ turns₀ said nothing buf pages lists numbers first-lines t kept turns =
     (kept ≤ length buf) × (length buf ≡ length buf₀)
 
 abbrev μ-loop : tie.MeasureT-loop
-μ-loop fd buf₀ task pages₀ lists₀ numbers₀ first-lines₀ t₀ kept₀ turns₀ t14 t15 buf pages lists numbers first-lines t kept turns =
+μ-loop fd buf₀ task pages₀ lists₀ numbers₀ first-lines₀ t₀ kept₀ turns₀ said nothing buf pages lists numbers first-lines t kept turns =
     turns
 
 none-requires : tie.Need-none-requires Inv-loop μ-loop
@@ -60,38 +60,14 @@ same-length-2 c = search needs
 returns-2 : tie.Need-returns-2 Inv-loop μ-loop
 returns-2 c = search needs
 
-whole-requires : tie.Need-whole-requires Inv-loop μ-loop
-whole-requires c κs = search needs
-
-sub-cut-short : tie.Need-sub-cut-short Inv-loop μ-loop
-sub-cut-short c = search needs
-
-slice-read-cut-short : tie.Need-slice-read-cut-short Inv-loop μ-loop
-slice-read-cut-short c = search needs
-
-cut-short-requires : tie.Need-cut-short-requires Inv-loop μ-loop
-cut-short-requires c κs = search needs
-
-slice-reshare-prefix-each-2 : tie.Need-slice-reshare-prefix-each-2 Inv-loop μ-loop
-slice-reshare-prefix-each-2 c = search needs
-
-slice-aggregate-each-2 : tie.Need-slice-aggregate-each-2 Inv-loop μ-loop
-slice-aggregate-each-2 c = simp length-take (omega arith)
-
-each-requires-2 : tie.Need-each-requires-2 Inv-loop μ-loop
-each-requires-2 c κs = search needs
-
-keep-requires : tie.Need-keep-requires Inv-loop μ-loop
-keep-requires c κs = search needs
+turn-requires : tie.Need-turn-requires Inv-loop μ-loop
+turn-requires c κs = search needs
 
 loop-less : tie.Need-loop-less Inv-loop μ-loop
-loop-less c = let a = c .before .before .before .before .before .before .before .before .before .before .before .before .before .before .before .before .before .before .before .before in omega (arith, a)
+loop-less c = search needs
 
 loop-again : tie.Need-loop-again Inv-loop μ-loop
-loop-again c =
-    let fill = c .before .before .before .before .before .before .before .before .before .before .before .before .before .before .before .before .before .before .before .fill in
-    let keep = c .before .before .keep in
-    (omega (arith, keep .ensures, keep .kept), omega (arith, keep .kept, fill .kept, c .before .before .before .before .before .before .before .before .before .before .before .before .before .before .before .before .before .before .before .before .before .before .loop .inv .1))
+loop-again c = search needs
 
 same-length-3 : tie.Need-same-length-3 Inv-loop μ-loop
 same-length-3 c = search needs
@@ -120,14 +96,7 @@ through-spec =
     each-requires
     same-length-2
     returns-2
-    whole-requires
-    sub-cut-short
-    slice-read-cut-short
-    cut-short-requires
-    slice-reshare-prefix-each-2
-    slice-aggregate-each-2
-    each-requires-2
-    keep-requires
+    turn-requires
     loop-less
     loop-again
     same-length-3
