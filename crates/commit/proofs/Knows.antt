@@ -5,10 +5,10 @@ use native.Mathlib.Omega.{arith}
 use Rattle.slices.specs.Bytes.{Bytes}
 use Rattle.refusals.specs.declared.Refusal.the-variants.{Unopened}
 use Rattle.layout.specs.declared.Sizes.{Sizes}
+use Rattle.blocks.specs.Blocks.{global}
 use Rattle.meta_dv_dict.specs.declared.Number.{Number}
 use Rattle.meta_dv_dict.specs.declared.Number.the-variants as N
 use Rattle.meta_dv_dict.specs.declared.GlobalId.{GlobalId}
-use Rattle.meta_dv_dict.specs.Blocks.{global}
 use Rattle.meta_dv_dict.specs.Answers.{NumberBelow, Globals}
 use Rattle.model.specs.Answers.{AddAnswer}
 use Rattle.commit.specs.declared.AddResult.the-variants.{Known, Refused}

@@ -4,8 +4,8 @@ use mathlib.Core.Path.{_≡_}
 use Rattle.slices.specs.Bytes.{Bytes}
 use Rattle.refusals.specs.declared.Refusal.the-variants as W
 use Rattle.layout.specs.declared.Sizes.{Sizes}
-use Rattle.meta_dv_dict.specs.Blocks.{Blocks, global}
-use Rattle.meta_dv_dict.specs.Tables.{BlocksAt}
+use Rattle.blocks.specs.Blocks.{Blocks, global}
+use Rattle.blocks.specs.Tables.{BlocksAt}
 use Rattle.model.specs.Answers.{AddAnswer}
 use Rattle.memory.specs.Promises.{InBlocks}
 use Rattle.commit.specs.declared.AddResult.{AddResult}

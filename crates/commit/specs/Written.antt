@@ -3,7 +3,7 @@ use Prim.Native.Nat.{ℕ}
 use Rattle.slices.specs.Bytes.{Bytes}
 use Rattle.layout.specs.declared.Sizes.{Sizes}
 use Rattle.bytes_dictionary.specs.Written.{pagesAfter, listsAfter}
-use Rattle.meta_dv_dict.specs.Answers.{blockWritten}
+use Rattle.blocks.specs.Answers.{blockWritten}
 use Rattle.model.specs.Kinds.{row}
 use Rattle.plan.specs.declared.Plan.{Plan}
 

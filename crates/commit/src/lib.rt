@@ -1,9 +1,9 @@
 // The answers of an add, the number of a name that is stored, and the writes of a plan. The memory may hold any bytes.
+use blocks::LocalId;
 use bytes_entry::NewEntry;
 use bytes_key::Key;
 use layout::Sizes;
 use meta_dv_dict::GlobalId;
-use meta_dv_dict::LocalId;
 use meta_dv_dict::Number;
 use parts::Mode;
 use plan::Plan;
@@ -108,6 +108,6 @@ pub fn commit(
     };
     insert_head(pages, lists, s, w, x, head);
     bytes_dictionary::insert(pages, lists, s, key, new_name, spot, front, rest);
-    meta_dv_dict::take_block(lists, s, w.k, LocalId(n), g);
+    blocks::take_block(lists, s, w.k, LocalId(n), g);
     AddResult::Fresh(meta_dv_dict::number_in(s, g, LocalId(n)))
 }

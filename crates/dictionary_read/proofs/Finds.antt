@@ -11,10 +11,10 @@ use Rattle.refusals.specs.declared.Refusal.the-variants.{Unopened}
 use Rattle.layout.specs.declared.Sizes.{Sizes}
 use Rattle.layout.specs.declared.Header.the-variants as H
 use Rattle.layout.specs.Header.{headerOf}
+use Rattle.blocks.specs.declared.LocalId.{LocalId}
+use Rattle.blocks.specs.Blocks.{global}
 use Rattle.meta_dv_dict.specs.declared.Number.the-variants as N
-use Rattle.meta_dv_dict.specs.declared.LocalId.{LocalId}
 use Rattle.meta_dv_dict.specs.declared.GlobalId.{GlobalId}
-use Rattle.meta_dv_dict.specs.Blocks.{global}
 use Rattle.meta_dv_dict.specs.Answers.{Globals}
 use Rattle.model.specs.Names.{Name}
 use Rattle.model.specs.Answers.{FindAnswer}

@@ -8,8 +8,8 @@ use Rattle.ranked_pair_dictionary.specs.FrequentId.{furtherBytes, frequentId, f
 use Rattle.string_dv_dict.specs.Packed.{packed, pairRefusal}
 use Rattle.string_dv_dict.specs.Answers.{packAnswer, packBuffer}
 use Rattle.bytes_buffer.specs.Pages.{fits, grown, grownAt, allPages}
-use Rattle.meta_dv_dict.specs.Rule.{blockRule}
-use Rattle.meta_dv_dict.specs.Blocks.{pick}
+use Rattle.blocks.specs.Rule.{blockRule}
+use Rattle.blocks.specs.Blocks.{pick}
 use Rattle.model.specs.State.{numberOf}
 use Rattle.model.specs.Steps.{shapeRefusal, textRefusal, checks, room, decide, extended}
 use Rattle.examples.specs.Examples.{Examples}

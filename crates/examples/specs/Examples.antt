@@ -13,7 +13,7 @@ use Rattle.refusals.specs.declared.Written.the-variants.{Length, Refused}
 use Rattle.ranked_pair_iri_dv_dict.specs.Split.{headOf, lengthOf}
 use Rattle.ranked_pair_dictionary.specs.FrequentId.{writeFidAnswer, writeFidBuffer}
 use Rattle.layout.specs.declared.Sizes.{Sizes}
-use Rattle.meta_dv_dict.specs.Rule.{blockRule}
+use Rattle.blocks.specs.Rule.{blockRule}
 use Rattle.string_dv_dict.specs.Answers.{packAnswer, packBuffer}
 use Rattle.model.specs.Names.{Name, entered}
 use Rattle.model.specs.Answers.AddAnswer.{refused, fresh, known}

@@ -10,9 +10,9 @@ use Rattle.layout.specs.Sizes.{pageBytes}
 use Rattle.bytes_dictionary.specs.declared.Lookup.{Lookup}
 use Rattle.bytes_dictionary.specs.declared.Lookup.the-variants as K
 use Rattle.bytes_dictionary.specs.Reading.{Gives, Looked}
-use Rattle.meta_dv_dict.specs.declared.LocalId.{LocalId}
+use Rattle.blocks.specs.declared.LocalId.{LocalId}
+use Rattle.blocks.specs.Blocks.{Block, free, held}
 use Rattle.meta_dv_dict.specs.declared.Owner.the-variants as O
-use Rattle.meta_dv_dict.specs.Blocks.{Block, free, held}
 use Rattle.meta_dv_dict.specs.Answers.{ownedBy, Locals}
 use Rattle.model.specs.Names.{Name}
 use Rattle.model.specs.Kinds.{row}

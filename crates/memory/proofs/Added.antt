@@ -19,8 +19,8 @@ use Rattle.bytes_buffer.specs.Pages.{Space, grown, grownAt}
 use Rattle.bytes_buffer.proofs.Pages.{grown-same, grown-other}
 use Rattle.bytes_dictionary.specs.Store.{Store, inserted, StoreAt}
 use Rattle.bytes_dictionary.proofs.Updates.{upd-same}
-use Rattle.meta_dv_dict.specs.Blocks.{took}
-use Rattle.meta_dv_dict.specs.Tables.{BlocksAt}
+use Rattle.blocks.specs.Blocks.{took}
+use Rattle.blocks.specs.Tables.{BlocksAt}
 use Rattle.model.specs.Names.{Name}
 use Rattle.model.specs.Kinds.{row}
 use Rattle.model.specs.State.{Stamped, Part, State, stampOf}

@@ -13,8 +13,8 @@ use Rattle.bytes_buffer.specs.declared.Spot.{Spot}
 use Rattle.bytes_dictionary.specs.Written.{pagesAfter, listsAfter, HasRoom}
 use Rattle.bytes_dictionary.proofs.Store.{length-pages, length-lists}
 use Rattle.bytes_dictionary.proofs.Beside.{bytes-beside, pages-beside}
-use Rattle.meta_dv_dict.specs.Answers.{blockWritten}
-use Rattle.meta_dv_dict.proofs.Written.{length-written, byte-written}
+use Rattle.blocks.specs.Answers.{blockWritten}
+use Rattle.blocks.proofs.Written.{length-written, byte-written}
 use Rattle.memory.specs.Promises.{SameBeyond}
 
 -- Lists of one length that agree from n on.

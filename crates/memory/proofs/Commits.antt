@@ -33,13 +33,13 @@ use Rattle.bytes_dictionary.proofs.Written.{plan-room}
 use Rattle.bytes_dictionary.proofs.Beside.{words-beside, places-beside, misses-kept}
 use Rattle.bytes_dictionary.proofs.Agree.{store-agree}
 use Rattle.bytes_dictionary.proofs.Store.{store-more}
-use Rattle.meta_dv_dict.specs.Blocks.{Blocks, pick, took}
-use Rattle.meta_dv_dict.specs.Tables.{BlocksAt}
-use Rattle.meta_dv_dict.specs.Answers.{blockWritten}
-use Rattle.meta_dv_dict.proofs.Steps.{picked}
-use Rattle.meta_dv_dict.proofs.Pigeons.{picked-below}
-use Rattle.meta_dv_dict.proofs.Tables.{took-blocks, kept-blocks}
-use Rattle.meta_dv_dict.proofs.Written.{length-written, byte-written}
+use Rattle.blocks.specs.Blocks.{Blocks, pick, took}
+use Rattle.blocks.specs.Tables.{BlocksAt}
+use Rattle.blocks.specs.Answers.{blockWritten}
+use Rattle.blocks.proofs.Steps.{picked}
+use Rattle.blocks.proofs.Pigeons.{picked-below}
+use Rattle.blocks.proofs.Tables.{took-blocks, kept-blocks}
+use Rattle.blocks.proofs.Written.{length-written, byte-written}
 
 -- ---- the plan's spot has room, in any memory
 

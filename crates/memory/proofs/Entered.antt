@@ -29,8 +29,8 @@ use Rattle.bytes_buffer.proofs.Pages.{grown-other, pages-fit, pages-unfit}
 use Rattle.bytes_buffer.proofs.Plans.{plan-says, current-pages, next-pages, none-over}
 use Rattle.bytes_dictionary.specs.Written.{pagesAfter, listsAfter, IsSpot}
 use Rattle.bytes_dictionary.specs.Ready.{Ready}
-use Rattle.meta_dv_dict.specs.Blocks.{pick, global}
-use Rattle.meta_dv_dict.specs.Answers.{blockWritten}
+use Rattle.blocks.specs.Blocks.{pick, global}
+use Rattle.blocks.specs.Answers.{blockWritten}
 use Rattle.model.specs.Names.{Name}
 use Rattle.model.specs.Kinds.{row}
 use Rattle.model.specs.State.{Stamped, State, stampOf, localOf, entryNumber, numberOf}

@@ -14,7 +14,7 @@ use Rattle.slices.proofs.Tests.{Split, split}
 use Rattle.layout.specs.declared.Sizes.{Sizes}
 use Rattle.layout.specs.Sizes.{InRange, kinds, dictionaries}
 use Rattle.bytes_dictionary.proofs.One.{SameDict, one-store}
-use Rattle.meta_dv_dict.proofs.Unique.{blocks-unique}
+use Rattle.blocks.proofs.Unique.{blocks-unique}
 use Rattle.model.specs.Names.{Name}
 use Rattle.model.specs.Kinds.{row}
 use Rattle.model.specs.State.{Stamped, State, numberOf}

@@ -10,7 +10,7 @@ use Rattle.layout.specs.Opened.{openedLists}
 use Rattle.layout.proofs.Opened.{opened-length, opened-beyond}
 use Rattle.bytes_dictionary.specs.Store.{emptyStore}
 use Rattle.bytes_dictionary.proofs.Empty.{init-store}
-use Rattle.meta_dv_dict.proofs.Tables.{init-blocks}
+use Rattle.blocks.proofs.Tables.{init-blocks}
 use Rattle.model.specs.State.{opened}
 use Rattle.model.proofs.Good.{opened-good}
 use Rattle.memory.specs.Stands.{Stands}

@@ -10,7 +10,7 @@ use Rattle.layout.specs.declared.Sizes.{Sizes}
 use Rattle.layout.specs.Sizes.{listBytes}
 use Rattle.layout.proofs.Places.{dict-end, list-bytes}
 use Rattle.bytes_dictionary.proofs.Agree.{store-agree}
-use Rattle.meta_dv_dict.proofs.Tables.{kept-blocks, block-fits}
+use Rattle.blocks.proofs.Tables.{kept-blocks, block-fits}
 use Rattle.model.specs.State.{State}
 use Rattle.memory.specs.Stands.{Stands}
 use Rattle.memory.specs.Lists.{Memory, SameDictionary}

@@ -10,7 +10,7 @@ use Rattle.slices.specs.Bytes.{Bytes}
 use Rattle.layout.specs.declared.Sizes.{Sizes}
 use Rattle.layout.specs.Sizes.{kinds, dictionaries}
 use Rattle.bytes_dictionary.specs.Store.{Store, StoreAt}
-use Rattle.meta_dv_dict.specs.Tables.{BlocksAt}
+use Rattle.blocks.specs.Tables.{BlocksAt}
 use Rattle.model.specs.Kinds.{row}
 use Rattle.model.specs.State.{Stamped, Part, State, stampOf}
 use Rattle.model.specs.Keys.{keysOf}

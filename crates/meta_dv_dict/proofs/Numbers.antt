@@ -7,9 +7,9 @@ use native.Mathlib.Omega.{arith}
 use native.Mathlib.Decide.{ℕ-discrete}
 use borrow.Author.Tests.{eq-eqb, ne-eqb}
 use lib.Pow as Pow
-use Rattle.meta_dv_dict.specs.Blocks.{held, Blocks, took, global, newest}
-use Rattle.meta_dv_dict.specs.Sound.{Sound, May}
-use Rattle.meta_dv_dict.proofs.Steps.{stable, took-sound}
+use Rattle.blocks.specs.Blocks.{held, Blocks, took, global, newest}
+use Rattle.blocks.specs.Sound.{Sound, May}
+use Rattle.blocks.proofs.Steps.{stable, took-sound}
 
 -- A local number that is given is in a local block that is begun.
 pub in-begun : (w n m : ℕ) → n < m → n / 2 ^ w * 2 ^ w < m

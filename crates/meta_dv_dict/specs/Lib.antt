@@ -1,6 +1,2 @@
--- The definitions of this crate, by subject.
-pub mod Blocks
-pub mod Rule
-pub mod Sound
-pub mod Tables
+-- The definitions of this crate.
 pub mod Answers

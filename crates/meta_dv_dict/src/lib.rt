@@ -1,124 +1,25 @@
-// The block rules (Nemo's meta_dv_dict.rs): which global block a kind's next local number is in, and how local and global numbers are converted.
-// Only this file converts one into the other. The memory may be foreign, so every number read from it is tested.
+// How local and global numbers are converted (Nemo's meta_dv_dict.rs). Only this file converts one into the other; which block a local number is in stands in
+// the crate blocks. The memory may be foreign, so every number read from it is tested.
 ghost use mathlib.Core.Path.{_≡_};
-ghost use Prim.Native.Nat.{_+_, _-_, _*_, _/_, _%_, _^_, _≤_, _<_};
+ghost use Prim.Native.Nat.{_+_, _*_, _%_, _^_, _≤_, _<_};
 ghost use lib.ListN.{length};
-ghost use Rattle.words.specs.Words.{wordAt};
 ghost use Rattle.layout.specs.Sizes.{InRange, kinds, listBytes};
-ghost use Rattle.layout.specs.Fields.{blocksAt, localAt};
-ghost use Rattle.meta_dv_dict.specs.Blocks.{search};
-ghost use Rattle.meta_dv_dict.specs.Tables.{ownerIn};
-ghost use Rattle.meta_dv_dict.specs.Answers.{allocated, Allocates, heldBy, blockWritten, Globals, Locals};
+ghost use Rattle.meta_dv_dict.specs.Answers.{Globals, Locals};
+use blocks::Held;
+use blocks::LocalId;
 use layout::KINDS;
 use layout::OWNERS;
 use layout::Sizes;
 
-// A number within its kind.
-pub struct LocalId(pub usize);
-
 // A number across the kinds.
 pub struct GlobalId(pub usize);
-
-// How many numbers a block has.
-fn block_size(s: Sizes) -> usize
-    requires { ⌜ InRange s ⌝ }
-    ensures { λ r. ⌜ (r ≡ 2 ^ s .w) × (0 < r) × (r ≤ 16777216) ⌝ }
-{
-    let w = s.w;
-    1 << w
-}
-
-// What the search for a block finds. Bad: the memory is no dictionary's.
-pub enum Allocated {
-    Block(usize),
-    NoBlock,
-    Bad,
-}
-
-// The first free block, from the block `from` up.
-fn first_free(lists: &[u8], s: Sizes, from: usize) -> Allocated
-    requires { ⌜ InRange s × (listBytes s ≤ length (now lists)) ⌝ }
-    ensures { λ r. ⌜ r ≡ allocated (search (ownerIn (now (lists .entry)) (blocksAt s kinds)) from (s .b - from)) ⌝ }
-{
-    let b = s.b;
-    let at = layout::blocks_at(s, KINDS);
-    let mut g = from;
-    while g < b {
-        if words::word_at(lists, at + g) == 0 {
-            return Allocated::Block(g);
-        }
-        g += 1;
-    }
-    Allocated::NoBlock
-}
-
-// The global block that holds a local block. Bad: the memory is no dictionary's.
-enum Held {
-    In(usize),
-    Bad,
-}
-
-// The global block that holds the kind k's local block l.
-fn held_in(lists: &[u8], s: Sizes, k: usize, l: usize) -> Held
-    requires { ⌜ InRange s × (listBytes s ≤ length (now lists)) × (k < kinds) × (l < s .b) ⌝ }
-    ensures { λ r. ⌜ r ≡ heldBy (s .b) (wordAt (now (lists .entry)) (localAt s k l)) ⌝ }
-{
-    let x = words::word_at(lists, layout::blocks_at(s, k) + l);
-    if x == 0 {
-        return Held::Bad;
-    }
-    if s.b < x {
-        return Held::Bad;
-    }
-    let g = x - 1;
-    Held::In(g)
-}
-
-// The block of the kind k's next local number.
-pub fn allocate_block(lists: &[u8], s: Sizes, k: usize, local: LocalId) -> Allocated
-    requires { ⌜ InRange s × (listBytes s ≤ length (now lists)) × (k < kinds) ⌝ }
-    ensures { λ r. ⌜ Allocates s (now (lists .entry)) k (local .0) r ⌝ }
-{
-    let n = local.0;
-    let size = block_size(s);
-    let l = n / size;
-    // Each earlier local block has taken a global one, so none is left for this one.
-    if s.b <= l {
-        return Allocated::NoBlock;
-    }
-    if n % size != 0 {
-        let Held::In(g) = held_in(lists, s, k, l) else {
-            return Allocated::Bad;
-        };
-        return Allocated::Block(g);
-    }
-    if l == 0 {
-        return first_free(lists, s, 0);
-    }
-    let before = l - 1;
-    let Held::In(g) = held_in(lists, s, k, before) else {
-        return Allocated::Bad;
-    };
-    first_free(lists, s, g + before)
-}
-
-// Writes that the kind k's local number is in the block g.
-pub fn take_block(lists: &mut [u8], s: Sizes, k: usize, local: LocalId, g: usize)
-    requires { ⌜ InRange s × (listBytes s ≤ length (now lists)) × (k < kinds) × (local .0 / 2 ^ s .w < s .b) × (g < s .b) ⌝ }
-    ensures { λ _. ⌜ now (lists .exit) ≡ blockWritten s (now (lists .entry)) k (local .0) g ⌝ }
-{
-    let n = local.0;
-    let l = n / block_size(s);
-    words::put_word(lists, layout::blocks_at(s, k) + l, g + 1);
-    words::put_word(lists, layout::blocks_at(s, KINDS) + g, 1 + k + OWNERS * l);
-}
 
 // The global number of a local number that is in the block g.
 pub fn number_in(s: Sizes, g: usize, local: LocalId) -> GlobalId
     requires { ⌜ InRange s × (g < s .b) ⌝ }
     ensures { λ r. ⌜ r ≡ record { 0 = g * 2 ^ s .w + local .0 % 2 ^ s .w } ⌝ }
 {
-    let size = block_size(s);
+    let size = blocks::block_size(s);
     let rest = local.0 % size;
     let start = g * size;
     let number = start + rest;
@@ -137,11 +38,11 @@ pub fn local_to_global(lists: &[u8], s: Sizes, k: usize, local: LocalId) -> Numb
     ensures { λ r. ⌜ Globals s (now (lists .entry)) k (local .0) r ⌝ }
 {
     let n = local.0;
-    let l = n / block_size(s);
+    let l = n / blocks::block_size(s);
     if s.b <= l {
         return Number::Bad;
     }
-    let Held::In(g) = held_in(lists, s, k, l) else {
+    let Held::In(g) = blocks::held_in(lists, s, k, l) else {
         return Number::Bad;
     };
     Number::Global(number_in(s, g, local))
@@ -160,7 +61,7 @@ pub fn global_to_local(lists: &[u8], s: Sizes, number: GlobalId) -> Owner
     ensures { λ r. ⌜ Locals s (now (lists .entry)) (number .0) r ⌝ }
 {
     let n = number.0;
-    let size = block_size(s);
+    let size = blocks::block_size(s);
     let g = n / size;
     let b = s.b;
     if b <= g {

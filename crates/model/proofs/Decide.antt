@@ -6,7 +6,7 @@ use native.Mathlib.Omega.{arith}
 use Rattle.refusals.specs.declared.Refusal.{Refusal}
 use Rattle.refusals.specs.declared.Refusal.the-variants.{NoBlock}
 use Rattle.layout.specs.declared.Sizes.{Sizes}
-use Rattle.meta_dv_dict.specs.Blocks.{pick}
+use Rattle.blocks.specs.Blocks.{pick}
 use Rattle.model.specs.Names.{Name}
 use Rattle.model.specs.State.{State, numberOf}
 use Rattle.model.specs.Steps.{checks, room, refuse, found, enter, decideBlock, decideRoom, decideKnown, decideChecked, decide}

@@ -11,7 +11,7 @@ use native.Mathlib.Decide.{ℕ-discrete}
 use lib.ListN.{length}
 use Rattle.slices.proofs.Tests.{Split, split}
 use Rattle.layout.specs.declared.Sizes.{Sizes}
-use Rattle.meta_dv_dict.specs.Blocks.{Blocks, newest, blocksAfter}
+use Rattle.blocks.specs.Blocks.{Blocks, newest, blocksAfter}
 use Rattle.model.specs.Names.{Name, sameName}
 use Rattle.model.specs.State.{State, numberOf}
 use Rattle.model.specs.Steps.{Decision, refuse, found, enter, decide, extended, answerBy, stateBy, afterAdd}

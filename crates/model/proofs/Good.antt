@@ -16,9 +16,9 @@ use Rattle.layout.specs.declared.Sizes.{Sizes}
 use Rattle.layout.specs.Sizes.{InRange, kinds, dictionaries, pageSize}
 use Rattle.bytes_buffer.specs.Pages.{allPages}
 use Rattle.bytes_buffer.proofs.Pages.{none-taken, grown-used, grown-taken}
-use Rattle.meta_dv_dict.specs.Blocks.{Blocks, took}
-use Rattle.meta_dv_dict.specs.Sound.{Sound, Below, May}
-use Rattle.meta_dv_dict.proofs.Steps.{picked, step-sound, opened-sound}
+use Rattle.blocks.specs.Blocks.{Blocks, took}
+use Rattle.blocks.specs.Sound.{Sound, Below, May}
+use Rattle.blocks.proofs.Steps.{picked, step-sound, opened-sound}
 use Rattle.model.specs.Names.{Name}
 use Rattle.model.specs.State.{State, opened, stampOf, localOf, globalOf, numberOf}
 use Rattle.model.specs.Steps.{nameHead, keyOf, isFull, spaceAfter, room, Decision, refuse, found, enter, decide, partAfter, extended, stateBy, afterAdd}

@@ -11,8 +11,8 @@ use Rattle.slices.specs.Bytes.{Bytes}
 use Rattle.refusals.specs.declared.Refusal.{Refusal}
 use Rattle.layout.specs.declared.Sizes.{Sizes}
 use Rattle.layout.specs.Sizes.{InRange, kinds}
-use Rattle.meta_dv_dict.specs.Blocks.{blocksAfter}
-use Rattle.meta_dv_dict.proofs.Rule.{rule-steps}
+use Rattle.blocks.specs.Blocks.{blocksAfter}
+use Rattle.blocks.proofs.Rule.{rule-steps}
 use Rattle.model.specs.Names.{Name, size}
 use Rattle.model.specs.Answers.{AddAnswer, FindAnswer, ReadAnswer, CountAnswer}
 use Rattle.model.specs.State.{State, opened, numberOf, nameOf}

@@ -15,7 +15,7 @@ use Rattle.refusals.specs.Numbers.{refusalNumber}
 use Rattle.layout.specs.declared.Sizes.{Sizes}
 use Rattle.layout.specs.Sizes.{limit, kinds}
 use Rattle.bytes_buffer.specs.Pages.{allPages}
-use Rattle.meta_dv_dict.specs.Blocks.{pick}
+use Rattle.blocks.specs.Blocks.{pick}
 use Rattle.model.specs.Names.{Name, size}
 use Rattle.model.specs.Kinds.{row}
 use Rattle.model.specs.Answers.{AddAnswer, FindAnswer, ReadAnswer, CountAnswer}

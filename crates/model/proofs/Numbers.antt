@@ -9,8 +9,8 @@ use native.Mathlib.Decide.{ℕ-discrete}
 use borrow.Author.Tests.{eq-eqb, ne-eqb}
 use Rattle.slices.proofs.Tests.{Split, split}
 use Rattle.layout.specs.declared.Sizes.{Sizes}
-use Rattle.meta_dv_dict.specs.Blocks.{Block, free, held, took, global, newest}
-use Rattle.meta_dv_dict.specs.Sound.{May}
+use Rattle.blocks.specs.Blocks.{Block, free, held, took, global, newest}
+use Rattle.blocks.specs.Sound.{May}
 use Rattle.meta_dv_dict.proofs.Numbers.{to-local, to-global, numbers-stay, newest-given}
 use Rattle.model.specs.Names.{Name, sameName}
 use Rattle.model.specs.State.{State, localOf, globalOf, numberOf, nameAt, nameOf}

@@ -10,7 +10,7 @@ use lib.ListN.{length}
 use Rattle.slices.proofs.Tests.{Split, split}
 use Rattle.layout.specs.declared.Sizes.{Sizes}
 use Rattle.layout.specs.Sizes.{kinds, dictionaries}
-use Rattle.meta_dv_dict.specs.Blocks.{Block, free, held}
+use Rattle.blocks.specs.Blocks.{Block, free, held}
 use Rattle.model.specs.State.{Stamped, Part, State}
 use Rattle.model.specs.Good.{NamesOf, Good}
 use Rattle.model.proofs.Table.{no-pair}

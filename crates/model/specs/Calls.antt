@@ -12,8 +12,8 @@ use Rattle.slices.specs.Bytes.{Bytes}
 use Rattle.refusals.specs.declared.Refusal.{Refusal}
 use Rattle.layout.specs.declared.Sizes.{Sizes}
 use Rattle.layout.specs.Sizes.{kinds}
-use Rattle.meta_dv_dict.specs.Rule.{blockRule}
-use Rattle.meta_dv_dict.specs.Blocks.{pick, blocksAfter, numberPicked}
+use Rattle.blocks.specs.Rule.{blockRule}
+use Rattle.blocks.specs.Blocks.{pick, blocksAfter, numberPicked}
 use Rattle.model.specs.Names.{Name}
 use Rattle.model.specs.Answers.{AddAnswer, FindAnswer, ReadAnswer, CountAnswer}
 use Rattle.model.specs.State.{State, numberOf}

@@ -9,7 +9,7 @@ use Rattle.slices.specs.Bytes.{Bytes}
 use Rattle.layout.specs.declared.Sizes.{Sizes}
 use Rattle.layout.specs.Sizes.{InRange, dictionaries}
 use Rattle.bytes_buffer.specs.Pages.{allPages}
-use Rattle.meta_dv_dict.specs.Sound.{Sound, Below}
+use Rattle.blocks.specs.Sound.{Sound, Below}
 use Rattle.model.specs.Kinds.{row}
 use Rattle.model.specs.State.{Stamped, Part, State, stampOf, localOf, entryNumber}
 use Rattle.model.specs.Steps.{checks, nameHead}

@@ -9,7 +9,7 @@ use Rattle.slices.specs.Bytes.{Bytes, sameBytes}
 use Rattle.layout.specs.declared.Sizes.{Sizes}
 use Rattle.layout.specs.Sizes.{kinds}
 use Rattle.bytes_buffer.specs.Pages.{Space, noSpace, sum}
-use Rattle.meta_dv_dict.specs.Blocks.{Block, free, held, Blocks, noBlocks, global}
+use Rattle.blocks.specs.Blocks.{Block, free, held, Blocks, noBlocks, global}
 use Rattle.model.specs.Names.{Name, sameName}
 
 -- A name with its order stamp: how many local numbers all kinds had used up before it.

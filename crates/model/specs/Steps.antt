@@ -14,7 +14,7 @@ use Rattle.ranked_pair_dictionary.specs.FrequentId.{fid}
 use Rattle.layout.specs.declared.Sizes.{Sizes}
 use Rattle.layout.specs.Sizes.{inRange, limit, kinds, pageBytes, listBytes}
 use Rattle.bytes_buffer.specs.Pages.{Space, grownAt, allPages}
-use Rattle.meta_dv_dict.specs.Blocks.{pick, took, newest}
+use Rattle.blocks.specs.Blocks.{pick, took, newest}
 use Rattle.model.specs.Names.{Name, size}
 use Rattle.model.specs.Answers.{OpenAnswer, AddAnswer, FindAnswer, ReadAnswer, CountAnswer}
 use Rattle.model.specs.Kinds.{row}

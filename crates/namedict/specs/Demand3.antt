@@ -10,7 +10,7 @@ use lib.ListN.{length, drop}
 use Rattle.slices.specs.Bytes.{Bytes}
 use Rattle.layout.specs.declared.Sizes.{Sizes}
 use Rattle.layout.specs.Sizes.{kinds}
-use Rattle.meta_dv_dict.specs.Rule.{blockRule}
+use Rattle.blocks.specs.Rule.{blockRule}
 use Rattle.model.specs.Names.{Name, size}
 use Rattle.model.specs.Calls.{Effect, fresh, known, no-effect, At, nothing, Given, Issued, freshKinds, howMany}
 use Rattle.numbers.specs.declared.NamedictNumbered.{NamedictNumbered}

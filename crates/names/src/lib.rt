@@ -1,8 +1,8 @@
 // A name's arguments: the kinds and their dictionaries, the check of refusals 4 to 7 in its two halves, and where head and rest lie.
+use blocks::LocalId;
 use bytes_dictionary::EntryId;
 use layout::KINDS;
 use layout::Sizes;
-use meta_dv_dict::LocalId;
 use parts::Mode;
 use ranked_pair_iri_dv_dict::Head;
 use refusals::Checked;

@@ -23,7 +23,7 @@ use Rattle.bytes_dictionary.specs.declared.Counted.the-variants as C
 use Rattle.bytes_dictionary.specs.Reading.{countIn}
 use Rattle.bytes_dictionary.specs.Written.{HasRoom, IsSpot}
 use Rattle.bytes_dictionary.proofs.Written.{plan-room}
-use Rattle.meta_dv_dict.specs.Blocks.{pick}
+use Rattle.blocks.specs.Blocks.{pick}
 use Rattle.model.specs.Kinds.{row}
 use Rattle.model.specs.State.{State, stampOf}
 use Rattle.memory.specs.Stands.{Stands}

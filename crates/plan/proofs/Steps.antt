@@ -20,11 +20,11 @@ use Rattle.bytes_dictionary.specs.declared.Counted.{Counted}
 use Rattle.bytes_dictionary.specs.declared.Counted.the-variants as C
 use Rattle.bytes_dictionary.specs.Reading.{countIn}
 use Rattle.bytes_dictionary.proofs.Reading.{counted-by}
-use Rattle.meta_dv_dict.specs.declared.Allocated.{Allocated}
-use Rattle.meta_dv_dict.specs.declared.Allocated.the-variants as A
-use Rattle.meta_dv_dict.proofs.Allocated.{the-type}
-use Rattle.meta_dv_dict.specs.Blocks.{pick}
-use Rattle.meta_dv_dict.specs.Answers.{allocated, Allocates}
+use Rattle.blocks.specs.declared.Allocated.{Allocated}
+use Rattle.blocks.specs.declared.Allocated.the-variants as A
+use Rattle.blocks.proofs.Allocated.{the-type}
+use Rattle.blocks.specs.Blocks.{pick}
+use Rattle.blocks.specs.Answers.{allocated, Allocates}
 use Rattle.model.specs.Kinds.{row}
 use Rattle.model.specs.State.{State, stampOf}
 use Rattle.memory.specs.Stands.{Stands}

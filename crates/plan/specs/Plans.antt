@@ -18,7 +18,7 @@ use Rattle.bytes_buffer.specs.declared.Spot.{Spot}
 use Rattle.bytes_buffer.specs.declared.Spot.the-variants.{NoPage}
 use Rattle.bytes_buffer.specs.Spots.{spotIn, untakenAfter}
 use Rattle.bytes_dictionary.specs.Written.{HasRoom, IsSpot}
-use Rattle.meta_dv_dict.specs.Blocks.{pick}
+use Rattle.blocks.specs.Blocks.{pick}
 use Rattle.model.specs.Kinds.{row}
 use Rattle.model.specs.State.{State, stampOf}
 use Rattle.memory.specs.Stands.{Stands}

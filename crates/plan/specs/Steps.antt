@@ -18,9 +18,9 @@ use Rattle.bytes_buffer.specs.declared.Spot.the-variants.{Current, Next, NoPage
 use Rattle.bytes_buffer.specs.Spots.{lowestOf}
 use Rattle.bytes_dictionary.specs.declared.Counted.the-variants as C
 use Rattle.bytes_dictionary.specs.Reading.{countIn}
-use Rattle.meta_dv_dict.specs.declared.Allocated.{Allocated}
-use Rattle.meta_dv_dict.specs.declared.Allocated.the-variants as A
-use Rattle.meta_dv_dict.specs.Blocks.{pick}
+use Rattle.blocks.specs.declared.Allocated.{Allocated}
+use Rattle.blocks.specs.declared.Allocated.the-variants as A
+use Rattle.blocks.specs.Blocks.{pick}
 use Rattle.model.specs.Kinds.{row}
 use Rattle.model.specs.State.{State, stampOf}
 use Rattle.memory.specs.Stands.{Stands}

@@ -1,11 +1,11 @@
 // The plan of an add: where a name's entries go, its block and its stamp. It decides refusals 8, 9 and 10, and writes nothing. The memory may hold any bytes.
+use blocks::Allocated;
+use blocks::LocalId;
 use bytes_buffer::Lowest;
 use bytes_buffer::Spot;
 use bytes_dictionary::Counted;
 use layout::KINDS;
 use layout::Sizes;
-use meta_dv_dict::Allocated;
-use meta_dv_dict::LocalId;
 use refusals::Checked;
 use refusals::Refusal;
 ghost use mathlib.Core.Path.{_≡_};
@@ -73,7 +73,7 @@ fn choose_block(lists: &[u8], s: Sizes, k: usize, n: usize) -> Chosen
     requires { ⌜ InRange s × (listBytes s ≤ length (now lists)) × (k < kinds) ⌝ }
     ensures { λ r. ⌜ Chooses s (now (lists .entry)) k n r ⌝ }
 {
-    let allocated = meta_dv_dict::allocate_block(lists, s, k, LocalId(n));
+    let allocated = blocks::allocate_block(lists, s, k, LocalId(n));
     let Allocated::Block(g) = allocated else {
         return refuse_block(allocated);
     };

@@ -1,10 +1,10 @@
 // The search for a name: its head, where its kind has heads, then its key in the kind's main dictionary. The memory may hold any bytes.
+use blocks::LocalId;
 use bytes_dictionary::EntryId;
 use bytes_index::Probe;
 use bytes_key::Key;
 use fnv::Scanned;
 use layout::Sizes;
-use meta_dv_dict::LocalId;
 use parts::Mode;
 use ranked_pair_dictionary::Lead;
 ghost use mathlib.Core.Path.{_≡_};

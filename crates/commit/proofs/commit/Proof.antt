@@ -5,8 +5,8 @@ use native.Mathlib.Omega.{arith}
 use Rattle.slices.specs.Bytes.{Bytes}
 use Rattle.layout.specs.declared.Sizes.{Sizes}
 use Rattle.bytes_dictionary.specs.Written.{pagesAfter, listsAfter}
+use Rattle.blocks.specs.Answers.{blockWritten}
 use Rattle.meta_dv_dict.specs.declared.GlobalId.{GlobalId}
-use Rattle.meta_dv_dict.specs.Answers.{blockWritten}
 use Rattle.model.specs.Answers.{AddAnswer}
 use Rattle.model.specs.Kinds.{row}
 use Rattle.model.proofs.Table.{main-below}

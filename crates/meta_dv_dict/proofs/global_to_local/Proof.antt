@@ -7,7 +7,7 @@ use borrow.Author.Needs.{needs}
 use lib.ListN.{length}
 use Rattle.words.specs.Words.{wordAt}
 use Rattle.layout.specs.Fields.{globalAt}
-use Rattle.meta_dv_dict.proofs.Tables.{global-word, block-fits}
+use Rattle.blocks.proofs.Tables.{global-word, block-fits}
 use Rattle.meta_dv_dict.proofs.Answers.{number-fits, locals-past, locals-free, locals-bad-kind, locals-bad-block, locals-held}
 use Rattle.meta_dv_dict.proofs.global_to_local.Statement.{statement}
 use Rattle.meta_dv_dict.proofs.global_to_local.Tie as tie

@@ -1,8 +1,9 @@
 -- Each return by its law. Assumes nothing.
 use mathlib.Core.Path.{sym, _∙_}
 use borrow.Author.Needs.{needs}
-use Rattle.meta_dv_dict.proofs.Answers.{held-below, globals-past, globals-bad, globals-there}
-use Rattle.meta_dv_dict.proofs.Tags.{not-in}
+use Rattle.blocks.proofs.Answers.{held-below}
+use Rattle.blocks.proofs.Tags.{not-in}
+use Rattle.meta_dv_dict.proofs.Answers.{globals-past, globals-bad, globals-there}
 use Rattle.meta_dv_dict.proofs.local_to_global.Statement.{statement}
 use Rattle.meta_dv_dict.proofs.local_to_global.Tie as tie
 

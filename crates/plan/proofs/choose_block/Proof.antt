@@ -1,6 +1,6 @@
 -- Each answer by its law. Assumes nothing.
 use mathlib.Core.Path.{sym, subst}
-use Rattle.meta_dv_dict.specs.Answers.{Allocates}
+use Rattle.blocks.specs.Answers.{Allocates}
 use Rattle.plan.specs.Steps.{Stamps, Chooses}
 use Rattle.plan.proofs.Steps.{chooses-none, chooses-unstamped, chooses-block}
 use borrow.Author.Needs.{needs}

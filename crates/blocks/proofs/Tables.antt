@@ -21,11 +21,11 @@ use Rattle.layout.specs.Fields.{blocksAt, localAt, globalAt, blockWord}
 use Rattle.layout.specs.Opened.{openedLists}
 use Rattle.layout.proofs.Places.{blocks-below, blocks-from, blocks-end, list-bytes}
 use Rattle.layout.proofs.Opened.{opened-zero}
-use Rattle.meta_dv_dict.specs.Blocks.{Block, free, held, Blocks, noBlocks, pick, took}
-use Rattle.meta_dv_dict.specs.Tables.{localWord, ownerWord, wordOwner, ownerIn, BlocksAt}
-use Rattle.meta_dv_dict.specs.Answers.{blockWritten}
-use Rattle.meta_dv_dict.proofs.Steps.{step-sound, picked, not-held, opened-sound}
-use Rattle.meta_dv_dict.proofs.Pigeons.{picked-below}
+use Rattle.blocks.specs.Blocks.{Block, free, held, Blocks, noBlocks, pick, took}
+use Rattle.blocks.specs.Tables.{localWord, ownerWord, wordOwner, ownerIn, BlocksAt}
+use Rattle.blocks.specs.Answers.{blockWritten}
+use Rattle.blocks.proofs.Steps.{step-sound, picked, not-held, opened-sound}
+use Rattle.blocks.proofs.Pigeons.{picked-below}
 
 -- ---- where the words lie
 

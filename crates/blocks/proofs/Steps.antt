@@ -12,8 +12,8 @@ use lib.Dec.{eqb}
 use lib.Pow as Pow
 use Rattle.slices.proofs.Tests.{Split, split}
 use Rattle.layout.specs.declared.Sizes.{Sizes}
-use Rattle.meta_dv_dict.specs.Blocks.{Block, free, held, Blocks, noBlocks, search, start, pick, took, tookPicked, blocksAfter}
-use Rattle.meta_dv_dict.specs.Sound.{Sound, Below, May, begins, goes-on}
+use Rattle.blocks.specs.Blocks.{Block, free, held, Blocks, noBlocks, search, start, pick, took, tookPicked, blocksAfter}
+use Rattle.blocks.specs.Sound.{Sound, Below, May, begins, goes-on}
 
 module _ (w : ℕ) (b : Blocks) (S : Sound w b) (k g : ℕ) where
   -- A block held by another local block is not g.

@@ -4,10 +4,10 @@ use native.Mathlib.Omega.{arith}
 use borrow.Author.Needs.{needs}
 use lib.ListN.{length}
 use Rattle.layout.specs.Fields.{localAt, globalAt}
-use Rattle.meta_dv_dict.proofs.Tables.{local-word, global-word, block-fits}
-use Rattle.meta_dv_dict.proofs.Answers.{written-is}
-use Rattle.meta_dv_dict.proofs.take_block.Statement.{statement}
-use Rattle.meta_dv_dict.proofs.take_block.Tie as tie
+use Rattle.blocks.proofs.Tables.{local-word, global-word, block-fits}
+use Rattle.blocks.proofs.Answers.{written-is}
+use Rattle.blocks.proofs.take_block.Statement.{statement}
+use Rattle.blocks.proofs.take_block.Tie as tie
 
 -- The function's start, from where the kind's table was found; and that place, from where the table of owners was.
 abbrev start : tie.After-blocks-at → tie.Start

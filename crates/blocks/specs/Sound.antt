@@ -2,7 +2,7 @@
 use Prim.Native.Nat.{ℕ, _*_, _/_, _%_, _^_, _<_}
 use mathlib.Core.Path.{_≡_}
 use mathlib.Core.Logic.{_≢_}
-use Rattle.meta_dv_dict.specs.Blocks.{free, held, Blocks}
+use Rattle.blocks.specs.Blocks.{free, held, Blocks}
 
 -- The two tables of blocks agree with one another.
 pub record Sound (w : ℕ) (b : Blocks) : Type 0 where

@@ -7,13 +7,13 @@ use native.Mathlib.Omega.{arith}
 use lib.ListN.{length}
 use Rattle.layout.specs.Sizes.{kinds}
 use Rattle.layout.specs.Fields.{blocksAt, globalAt}
-use Rattle.meta_dv_dict.specs.Blocks as B
-use Rattle.meta_dv_dict.specs.Tables.{ownerIn}
-use Rattle.meta_dv_dict.specs.Answers.{allocated}
-use Rattle.meta_dv_dict.proofs.Search.{search-end, search-here, search-on}
-use Rattle.meta_dv_dict.proofs.Tables.{global-word, block-fits}
-use Rattle.meta_dv_dict.proofs.first_free.Statement.{statement}
-use Rattle.meta_dv_dict.proofs.first_free.Tie as tie
+use Rattle.blocks.specs.Blocks as B
+use Rattle.blocks.specs.Tables.{ownerIn}
+use Rattle.blocks.specs.Answers.{allocated}
+use Rattle.blocks.proofs.Search.{search-end, search-here, search-on}
+use Rattle.blocks.proofs.Tables.{global-word, block-fits}
+use Rattle.blocks.proofs.first_free.Statement.{statement}
+use Rattle.blocks.proofs.first_free.Tie as tie
 
 abbrev Inv-loop : tie.InvT-loop
 Inv-loop lists from b at g₀ g = B.search (ownerIn lists at) from (b - from) ≡ B.search (ownerIn lists at) g (b - g)

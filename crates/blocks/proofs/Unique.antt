@@ -9,9 +9,9 @@ use Rattle.slices.specs.Bytes.{Bytes}
 use Rattle.slices.proofs.Tests.{Split, split}
 use Rattle.layout.specs.declared.Sizes.{Sizes}
 use Rattle.layout.specs.Sizes.{kinds}
-use Rattle.meta_dv_dict.specs.Blocks.{Blocks}
-use Rattle.meta_dv_dict.specs.Tables.{BlocksAt}
-use Rattle.meta_dv_dict.proofs.Tables.{owner-in, owner-past}
+use Rattle.blocks.specs.Blocks.{Blocks}
+use Rattle.blocks.specs.Tables.{BlocksAt}
+use Rattle.blocks.proofs.Tables.{owner-in, owner-past}
 
 -- No other kind has a number.
 pub no-kind : (s : Sizes) (b : Blocks) (lists : Bytes) → BlocksAt s b lists → (k : ℕ) → kinds ≤ k → b .next k ≡ 0

@@ -3,10 +3,10 @@ use Prim.Native.Nat.{_<_}
 use mathlib.Core.Path.{sym, _∙_}
 use native.Mathlib.Omega.{arith}
 use borrow.Author.Needs.{needs}
-use Rattle.meta_dv_dict.proofs.Answers.{held-below, allocates-past, allocates-held, allocates-bad, allocates-first, allocates-next, allocates-bad-before}
-use Rattle.meta_dv_dict.proofs.Tags.{not-in}
-use Rattle.meta_dv_dict.proofs.allocate_block.Statement.{statement}
-use Rattle.meta_dv_dict.proofs.allocate_block.Tie as tie
+use Rattle.blocks.proofs.Answers.{held-below, allocates-past, allocates-held, allocates-bad, allocates-first, allocates-next, allocates-bad-before}
+use Rattle.blocks.proofs.Tags.{not-in}
+use Rattle.blocks.proofs.allocate_block.Statement.{statement}
+use Rattle.blocks.proofs.allocate_block.Tie as tie
 
 block-size-requires : tie.Need-block-size-requires
 block-size-requires c κs = search needs

@@ -6,11 +6,11 @@ use borrow.Author.Needs.{needs}
 use lib.ListN.{length}
 use Rattle.words.specs.Words.{wordAt}
 use Rattle.layout.specs.Fields.{localAt}
-use Rattle.meta_dv_dict.specs.Answers.{heldBy}
-use Rattle.meta_dv_dict.proofs.Tables.{local-word, block-fits}
-use Rattle.meta_dv_dict.proofs.Answers.{held-none, held-past, held-there}
-use Rattle.meta_dv_dict.proofs.held_in.Statement.{statement}
-use Rattle.meta_dv_dict.proofs.held_in.Tie as tie
+use Rattle.blocks.specs.Answers.{heldBy}
+use Rattle.blocks.proofs.Tables.{local-word, block-fits}
+use Rattle.blocks.proofs.Answers.{held-none, held-past, held-there}
+use Rattle.blocks.proofs.held_in.Statement.{statement}
+use Rattle.blocks.proofs.held_in.Tie as tie
 
 blocks-at-requires : tie.Need-blocks-at-requires
 blocks-at-requires c κs = search needs

@@ -9,8 +9,8 @@ use lib.Dec.{eqb}
 use borrow.Author.Tests.{eqb-true}
 use Rattle.slices.proofs.Tests.{Split, split}
 use Rattle.layout.specs.declared.Sizes.{Sizes}
-use Rattle.meta_dv_dict.specs.Blocks.{Blocks, noBlocks, ifFree, search, start, pick, took, tookPicked, blocksAfter, numberPicked}
-use Rattle.meta_dv_dict.specs.Rule.{Grant, grantsOf, taken, holding, firstFree, searchFrom, blockFor, grantedIn, granted, numberIn, blockRule}
+use Rattle.blocks.specs.Blocks.{Blocks, noBlocks, ifFree, search, start, pick, took, tookPicked, blocksAfter, numberPicked}
+use Rattle.blocks.specs.Rule.{Grant, grantsOf, taken, holding, firstFree, searchFrom, blockFor, grantedIn, granted, numberIn, blockRule}
 
 -- The grants and the state say the same.
 record Same (xs : List Grant) (b : Blocks) : Type 0 where

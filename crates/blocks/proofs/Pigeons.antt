@@ -11,9 +11,9 @@ use lib.Dec.{ltb}
 use lib.Pow as Pow
 use Rattle.slices.proofs.Tests.{Split, split}
 use Rattle.layout.specs.declared.Sizes.{Sizes}
-use Rattle.meta_dv_dict.specs.Blocks.{held, Blocks, pick, took}
-use Rattle.meta_dv_dict.specs.Sound.{Sound, Below}
-use Rattle.meta_dv_dict.proofs.Steps.{step-sound}
+use Rattle.blocks.specs.Blocks.{held, Blocks, pick, took}
+use Rattle.blocks.specs.Sound.{Sound, Below}
+use Rattle.blocks.proofs.Steps.{step-sound}
 
 -- The numbers but v, with no gap where it was.
 abbrev without : ℕ → ℕ → ℕ

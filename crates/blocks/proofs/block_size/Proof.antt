@@ -5,8 +5,8 @@ use native.Mathlib.Omega.{arith}
 use native.Mathlib.Nat.{mod-eq-of-lt, one-mul}
 use lib.Pow.{pow-pos, pow-mono, pow-lt}
 use borrow.Author.Needs.{needs}
-use Rattle.meta_dv_dict.proofs.block_size.Statement.{statement}
-use Rattle.meta_dv_dict.proofs.block_size.Tie as tie
+use Rattle.blocks.proofs.block_size.Statement.{statement}
+use Rattle.blocks.proofs.block_size.Tie as tie
 
 shl-result : tie.Need-shl-result
 shl-result c = search needs

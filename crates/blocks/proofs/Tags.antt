@@ -2,9 +2,9 @@
 use mathlib.Core.Path.{_≡_, refl}
 use native.Mathlib.Omega.{arith}
 use denote.Enum.Declared.{tagOf}
-use Rattle.meta_dv_dict.specs.declared.Held.{Held}
-use Rattle.meta_dv_dict.specs.declared.Held.the-variants.{In, Bad}
-use Rattle.meta_dv_dict.proofs.Held.{the-type}
+use Rattle.blocks.specs.declared.Held.{Held}
+use Rattle.blocks.specs.declared.Held.the-variants.{In, Bad}
+use Rattle.blocks.proofs.Held.{the-type}
 
 pub not-in : (m : Held) → tagOf the-type m ≡ 1 → m ≡ Bad
 not-in (In g) e = absurd (omega arith)

@@ -11,8 +11,8 @@ use Rattle.words.proofs.Laws.{length-setWord, getD-setWord}
 use Rattle.layout.specs.declared.Sizes.{Sizes}
 use Rattle.layout.specs.Sizes.{kinds, listBytes}
 use Rattle.layout.specs.Fields.{blocksAt, localAt, globalAt, blockWord}
-use Rattle.meta_dv_dict.specs.Answers.{blockWritten}
-use Rattle.meta_dv_dict.proofs.Tables.{BlockWord, local-word, global-word, block-fits}
+use Rattle.blocks.specs.Answers.{blockWritten}
+use Rattle.blocks.proofs.Tables.{BlockWord, local-word, global-word, block-fits}
 
 pub length-written : (s : Sizes) (lists : Bytes) (k n g : ℕ) → length (blockWritten s lists k n g) ≡ length lists
 unfolding blockWritten

@@ -8,8 +8,8 @@ use Rattle.words.specs.Words.{wordAt}
 use Rattle.layout.specs.declared.Sizes.{Sizes}
 use Rattle.layout.specs.Sizes.{kinds}
 use Rattle.layout.specs.Fields.{localAt, globalAt, blockWord}
-use Rattle.meta_dv_dict.specs.Blocks.{Block, free, held, Blocks}
-use Rattle.meta_dv_dict.specs.Sound.{Sound, Below}
+use Rattle.blocks.specs.Blocks.{Block, free, held, Blocks}
+use Rattle.blocks.specs.Sound.{Sound, Below}
 
 -- The word of the kind k's local block l: 0 if it has not begun.
 abbrev pub localWord : ℕ → Blocks → ℕ → ℕ → ℕ

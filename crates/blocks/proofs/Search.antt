@@ -7,8 +7,8 @@ use native.Mathlib.Omega.{arith}
 use native.Mathlib.Numerals.{add-one}
 use Rattle.slices.specs.Bytes.{Bytes}
 use Rattle.words.specs.Words.{wordAt}
-use Rattle.meta_dv_dict.specs.Blocks.{Block, ifFree, search}
-use Rattle.meta_dv_dict.specs.Tables.{wordOwner, ownerIn}
+use Rattle.blocks.specs.Blocks.{Block, ifFree, search}
+use Rattle.blocks.specs.Tables.{wordOwner, ownerIn}
 
 -- Tables that agree on the blocks searched give the same.
 pub search-agree : (t u : ℕ → Block) (g n : ℕ) → ((i : ℕ) → g ≤ i → i < g + n → t i ≡ u i) → search t g n ≡ search u g n
