@@ -66,7 +66,7 @@ fn insert_head(pages: &mut [u8], lists: &mut [u8], s: Sizes, w: NewName, x: Plan
     }
     let spot = x.head;
     let key = Key {
-        d: names::head_dictionary(w.k),
+        d: kind_table::head_dictionary(w.k),
         h: w.headhash,
         front: Mode::Raw,
         rest: Mode::Raw,

@@ -106,7 +106,7 @@ pub fn count(pages: &[u8], lists: &[u8], kind: usize) -> CountResult
     if KINDS <= kind {
         return CountResult::Refused(Refusal::BadKind);
     }
-    let counted = bytes_dictionary::count(lists, s, names::main_dictionary(kind));
+    let counted = bytes_dictionary::count(lists, s, kind_table::main_dictionary(kind));
     let Counted::Entries(n) = counted else {
         return CountResult::Refused(Refusal::Unopened);
     };

@@ -66,9 +66,9 @@ fn add_str<'a>(
 {
     let none = &first[..0];
     let key = Key {
-        d: names::main_dictionary(kind),
+        d: kind_table::main_dictionary(kind),
         h: x.h,
-        front: names::front_mode(kind),
+        front: kind_table::front_mode(kind),
         rest: Mode::Raw,
     };
     let w = NewName {
@@ -80,7 +80,7 @@ fn add_str<'a>(
         headplace: 0,
         headhash: fnv::START,
     };
-    if !names::has_heads(kind) {
+    if !kind_table::has_heads(kind) {
         return enter_name(pages, lists, s, w, none, second, first);
     }
     let n = names::head_length(kind, first);
@@ -107,7 +107,8 @@ fn add_pair<'a>(
     requires { ⌜ PlaceEnded s (now pages) (now lists) (entered kind (now first) (now second)) x (P.Head headplace) ⌝ }
     ensures { λ r. ⌜ AddsName s (entered kind (now (first .entry)) (now (second .entry))) (now (pages .entry)) (now (lists .entry)) (addedBy r) (now (pages .exit)) (now (lists .exit)) ⌝ }
 {
-    let Counted::Entries(f) = bytes_dictionary::count(lists, s, names::head_dictionary(kind)) else {
+    let Counted::Entries(f) = bytes_dictionary::count(lists, s, kind_table::head_dictionary(kind))
+    else {
         return AddResult::Refused(Refusal::Unopened);
     };
     let n = names::head_length(kind, first);
@@ -116,7 +117,7 @@ fn add_pair<'a>(
     let m = lead.len;
     let bytes = lead.bytes;
     let key = Key {
-        d: names::main_dictionary(kind),
+        d: kind_table::main_dictionary(kind),
         h: fnv::fnv_from(fnv::fnv(&bytes[..m]), rest),
         front: Mode::Raw,
         rest: Mode::Raw,

@@ -32,7 +32,7 @@ use Rattle.model.proofs.Table.{firstOnly, no-second}
 use Rattle.model.proofs.Legal.{legal}
 use Rattle.model.proofs.Keys.{entry-lt}
 use Rattle.model.proofs.Parts.{is-some}
-use Rattle.names.specs.Given.{isSplit}
+use Rattle.kind_table.specs.Rows.{isSplit}
 use Rattle.memory.specs.Stands.{Stands}
 use Rattle.memory.proofs.Named.{head-entry}
 use Rattle.locate.specs.declared.Located.the-variants.{At, Bad}

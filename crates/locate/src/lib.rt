@@ -1,10 +1,10 @@
 // Where the name of a number lies in the pages, and its copy into a buffer. The memory may hold any bytes: every number read from it is tested.
 use bytes_dictionary::EntryId;
 use bytes_dictionary::Lookup;
+use kind_table::Way;
 use layout::Sizes;
 use meta_dv_dict::GlobalId;
 use meta_dv_dict::Owner;
-use names::Way;
 use parts::Mode;
 use ranked_pair_dictionary::FrequentId;
 use string_dv_dict_split::Form;
@@ -53,7 +53,7 @@ fn locate_pair(pages: &[u8], lists: &[u8], s: Sizes, k: usize, at: usize, len: u
     let FrequentId::Value { value, length } = lead else {
         return Located::Bad;
     };
-    let head = bytes_dictionary::look_up(lists, s, names::head_dictionary(k), EntryId(value));
+    let head = bytes_dictionary::look_up(lists, s, kind_table::head_dictionary(k), EntryId(value));
     let Lookup::At {
         at: head_at,
         len: head_len,
@@ -63,7 +63,7 @@ fn locate_pair(pages: &[u8], lists: &[u8], s: Sizes, k: usize, at: usize, len: u
     };
     let rest_len = len - length;
     // How many bytes of the rest belong to the first part.
-    let moved = if names::is_split(k) { rest_len } else { 0 };
+    let moved = if kind_table::is_split(k) { rest_len } else { 0 };
     let first = head_len + moved;
     let second = rest_len - moved;
     let rest_at = at + length;
@@ -143,7 +143,7 @@ fn locate_entry(pages: &[u8], lists: &[u8], s: Sizes, k: usize, at: usize, len: 
     requires { ⌜ (k < kinds) × (at + len ≤ pageBytes s) ⌝ }
     ensures { λ r. ⌜ LocatesEntry s (now (pages .entry)) (now (lists .entry)) k at len r ⌝ }
 {
-    let way = names::row_of(k).way;
+    let way = kind_table::row_of(k).way;
     match way {
         Way::Splits => locate_pair(pages, lists, s, k, at, len),
         Way::Whole => locate_plain(k, at, len),
@@ -159,7 +159,7 @@ pub fn locate_name(pages: &[u8], lists: &[u8], s: Sizes, number: GlobalId) -> Lo
 {
     match meta_dv_dict::global_to_local(lists, s, number) {
         Owner::Local(k, local) => {
-            let d = names::main_dictionary(k);
+            let d = kind_table::main_dictionary(k);
             match bytes_dictionary::look_up(lists, s, d, names::local_to_entry(local)) {
                 Lookup::At { at, len } => locate_entry(pages, lists, s, k, at, len),
                 Lookup::Nothing => Located::Nothing,

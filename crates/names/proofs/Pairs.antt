@@ -14,7 +14,8 @@ use Rattle.ranked_pair_iri_dv_dict.proofs.Laws.{head-length, head-le}
 use Rattle.layout.specs.Sizes.{kinds}
 use Rattle.model.specs.Names.{Name, entered}
 use Rattle.model.specs.Kinds.{Way, splits, whole, packs, pairs, hasHeads, headBy, restBy, row}
-use Rattle.names.specs.Given.{IsPair, isSplit, headSize, restBehind}
+use Rattle.kind_table.specs.Rows.{isSplit}
+use Rattle.names.specs.Given.{IsPair, headSize, restBehind}
 
 -- A first part that does not split is the head, and the second part the rest.
 pub whole-head : (k : ℕ) (first : Bytes) → isSplit (row k .way) ≡ false → headSize k first ≡ length first

@@ -1,2 +1,2 @@
--- The definitions of this crate, by subject.
+-- The definitions of this crate.
 pub mod Given

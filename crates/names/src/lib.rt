@@ -1,140 +1,21 @@
-// A name's arguments: the kinds and their dictionaries, the check of refusals 4 to 7 in its two halves, and where head and rest lie.
+// A name's arguments: the check of refusals 4 to 7 in its two halves, where head and rest lie, and the entry of a local number.
 use blocks::LocalId;
 use bytes_dictionary::EntryId;
 use layout::KINDS;
 use layout::Sizes;
-use parts::Mode;
 use ranked_pair_iri_dv_dict::Head;
 use refusals::Checked;
 use refusals::Refusal;
 ghost use mathlib.Core.Path.{_≡_};
 ghost use mathlib.Core.Bool.{true, _&&_};
 ghost use mathlib.Core.List.{[]};
-ghost use Prim.Native.Nat.{_<_, _≤_};
+ghost use Prim.Native.Nat.{_≤_};
 ghost use lib.ListN.{length};
-ghost use Rattle.layout.specs.Sizes.{kinds, dictionaries};
 ghost use Rattle.utf8.specs.Text.{isText};
 ghost use Rattle.refusals.specs.Checked.{checkedBy};
 ghost use Rattle.model.specs.Names.{entered};
-ghost use Rattle.model.specs.Kinds.{row};
 ghost use Rattle.model.specs.Steps.{badKind, shapeRefusal, textRefusal};
-ghost use Rattle.names.specs.Given.{IsRow, isSplit, frontMode, headSize, restBehind};
-
-pub const IRI: usize = 0;
-
-pub const TAGGED: usize = 2;
-
-pub const TYPED: usize = 3;
-
-// How the parts of a name become entries: the ways of model/specs/Kinds.antt.
-pub enum Way {
-    Splits,
-    Whole,
-    Packs,
-    Pairs,
-}
-
-// What the table says of a kind: may it have a second part, must it have a tag, the dictionaries of its heads and of its names, its way.
-pub struct Row {
-    pub no_second: bool,
-    pub needs_tag: bool,
-    pub heads: usize,
-    pub main: usize,
-    pub way: Way,
-}
-
-// The table of kinds. No other code lists them. The last row is that of the plain strings; a number that is no kind gets it too.
-pub fn row_of(kind: usize) -> Row
-    ensures { λ r. ⌜ IsRow (row kind) r ⌝ }
-{
-    if kind == IRI {
-        return Row {
-            no_second: true,
-            needs_tag: false,
-            heads: 0,
-            main: 1,
-            way: Way::Splits,
-        };
-    }
-    if kind == TAGGED {
-        return Row {
-            no_second: false,
-            needs_tag: true,
-            heads: 3,
-            main: 3,
-            way: Way::Packs,
-        };
-    }
-    if kind == TYPED {
-        return Row {
-            no_second: false,
-            needs_tag: false,
-            heads: 4,
-            main: 5,
-            way: Way::Pairs,
-        };
-    }
-    Row {
-        no_second: true,
-        needs_tag: false,
-        heads: 2,
-        main: 2,
-        way: Way::Whole,
-    }
-}
-
-// The dictionary of a kind's names.
-pub fn main_dictionary(kind: usize) -> usize
-    ensures { λ r. ⌜ (r ≡ row kind .mainAt) × (r < dictionaries) ⌝ }
-{
-    row_of(kind).main
-}
-
-// The dictionary of a kind's heads, if it has heads.
-pub fn head_dictionary(kind: usize) -> usize
-    ensures { λ r. ⌜ (r ≡ row kind .headsAt) × (r < dictionaries) ⌝ }
-{
-    row_of(kind).heads
-}
-
-// Does the first part of the kind's names split into head and rest?
-pub fn is_split(kind: usize) -> bool
-    ensures { λ r. ⌜ r ≡ isSplit (row kind .way) ⌝ }
-{
-    let way = row_of(kind).way;
-    match way {
-        Way::Splits => true,
-        Way::Whole => false,
-        Way::Packs => false,
-        Way::Pairs => false,
-    }
-}
-
-// Do the kind's names have heads?
-pub fn has_heads(kind: usize) -> bool
-    ensures { λ r. ⌜ r ≡ row kind .paired ⌝ }
-{
-    let way = row_of(kind).way;
-    match way {
-        Way::Splits => true,
-        Way::Whole => false,
-        Way::Packs => false,
-        Way::Pairs => true,
-    }
-}
-
-// How the second part of a kind without heads is stored in front of the first: a tag in its form. A plain string has none.
-pub fn front_mode(kind: usize) -> Mode
-    ensures { λ r. ⌜ r ≡ frontMode (row kind .way) ⌝ }
-{
-    let way = row_of(kind).way;
-    match way {
-        Way::Splits => Mode::Raw,
-        Way::Whole => Mode::Raw,
-        Way::Packs => Mode::Tag,
-        Way::Pairs => Mode::Raw,
-    }
-}
+ghost use Rattle.names.specs.Given.{headSize, restBehind};
 
 // A name's local number is the number of its entry in the kind's main dictionary.
 pub fn entry_to_local(id: EntryId) -> LocalId
@@ -155,7 +36,7 @@ fn is_bad_kind(kind: usize, second: &[u8]) -> bool
     if KINDS <= kind {
         return true;
     }
-    row_of(kind).no_second && second.len() != 0
+    kind_table::row_of(kind).no_second && second.len() != 0
 }
 
 // Refusals 4 and 5 of a name. How long a name may be is asked of the sizes.
@@ -193,7 +74,7 @@ pub fn check_text(kind: usize, first: &[u8], second: &[u8], ascii: bool) -> Chec
     if !are_text(first, second, ascii) {
         return Checked::Illegal(Refusal::NotText);
     }
-    if row_of(kind).needs_tag && second.len() == 0 {
+    if kind_table::row_of(kind).needs_tag && second.len() == 0 {
         return Checked::Illegal(Refusal::NoTag);
     }
     Checked::Legal
@@ -203,7 +84,7 @@ pub fn check_text(kind: usize, first: &[u8], second: &[u8], ascii: bool) -> Chec
 pub fn head_length(kind: usize, first: &[u8]) -> usize
     ensures { λ r. ⌜ (r ≡ headSize kind (now (first .entry))) × (r ≤ length (now (first .entry))) ⌝ }
 {
-    if !is_split(kind) {
+    if !kind_table::is_split(kind) {
         return first.len();
     }
     let head = ranked_pair_iri_dv_dict::rfind_hashslash_plus(first);
@@ -218,7 +99,7 @@ pub fn rest_behind<'a>(kind: usize, first: &'a [u8], second: &'a [u8], n: usize)
     requires { ⌜ n ≤ length (now first) ⌝ }
     ensures { λ r. ⌜ now r ≡ restBehind n kind (now (first .entry)) (now (second .entry)) ⌝ }
 {
-    if !is_split(kind) {
+    if !kind_table::is_split(kind) {
         return second;
     }
     &first[n..]

@@ -29,7 +29,7 @@ fn next_stamp(lists: &[u8], s: Sizes) -> Stamp
     let mut t = 0;
     let mut k = 0;
     while k < KINDS {
-        let Counted::Entries(n) = bytes_dictionary::count(lists, s, names::main_dictionary(k))
+        let Counted::Entries(n) = bytes_dictionary::count(lists, s, kind_table::main_dictionary(k))
         else {
             return Stamp::Bad;
         };
@@ -94,7 +94,7 @@ fn check_room(lists: &[u8], s: Sizes, k: usize, f: usize) -> Room
     requires { ⌜ InRange s × (listBytes s ≤ length (now lists)) × (k < kinds) ⌝ }
     ensures { λ r. ⌜ RoomIn s (now (lists .entry)) k f r ⌝ }
 {
-    let Counted::Entries(n) = bytes_dictionary::count(lists, s, names::main_dictionary(k)) else {
+    let Counted::Entries(n) = bytes_dictionary::count(lists, s, kind_table::main_dictionary(k)) else {
         return Room::Refused(Refusal::Unopened);
     };
     if s.e <= n || s.e <= f {
@@ -126,7 +126,7 @@ fn plan_head(
     if !newhead {
         return HeadPlanned::At(Spot::NoPage);
     }
-    let spot = bytes_buffer::plan(lists, s, names::head_dictionary(k), untaken, size);
+    let spot = bytes_buffer::plan(lists, s, kind_table::head_dictionary(k), untaken, size);
     if let Checked::Illegal(why) = check_spot(spot) {
         return HeadPlanned::Refused(why);
     }
@@ -164,7 +164,7 @@ pub fn plan_name(
         Room::Left { n, untaken } => match plan_head(lists, s, k, newhead, untaken, size) {
             HeadPlanned::At(head) => {
                 let next = bytes_buffer::untaken_after(untaken, head);
-                let spot = bytes_buffer::plan(lists, s, names::main_dictionary(k), next, len);
+                let spot = bytes_buffer::plan(lists, s, kind_table::main_dictionary(k), next, len);
                 if let Checked::Illegal(why) = check_spot(spot) {
                     return Planned::Refused(why);
                 }

@@ -15,8 +15,9 @@ use Rattle.fnv.proofs.Laws.{bits-append, bits-least, bits-first}
 use Rattle.utf8.specs.Text.{charStart, firstOf, after, textFrom, isText}
 use Rattle.model.specs.Kinds.{row}
 use Rattle.model.proofs.Table.{firstOnly}
-use Rattle.names.specs.Given.{isSplit, headSize, restBehind}
-use Rattle.names.proofs.Rows.{split-first}
+use Rattle.kind_table.specs.Rows.{isSplit}
+use Rattle.kind_table.proofs.Rows.{split-first}
+use Rattle.names.specs.Given.{headSize, restBehind}
 
 -- A byte below 0x80 is a character by itself.
 one : (x : ℕ) → x < 128 → after charStart x ≡ charStart

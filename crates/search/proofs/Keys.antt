@@ -20,7 +20,7 @@ use Rattle.bytes_key.specs.Keys.{keyBytes, IsKey}
 use Rattle.model.specs.Names.{entered}
 use Rattle.model.specs.Kinds.{Way, splits, whole, packs, pairs, hasHeads, restBy, row}
 use Rattle.model.proofs.Table.{firstOnly}
-use Rattle.names.specs.Given.{frontMode}
+use Rattle.kind_table.specs.Rows.{frontMode}
 
 pub raw-key : (front rest : Bytes) → keyBytes Raw front Raw rest ≡ front ++ rest
 unfolding bytesOf

@@ -55,7 +55,7 @@ fn find_head(pages: &[u8], lists: &[u8], s: Sizes, k: usize, h: u32, head: &[u8]
 {
     let none = &head[..0];
     let key = Key {
-        d: names::head_dictionary(k),
+        d: kind_table::head_dictionary(k),
         h,
         front: Mode::Raw,
         rest: Mode::Raw,
@@ -120,7 +120,7 @@ fn find_behind(
     let bytes = lead.bytes;
     let y = fnv::scan(fnv::fnv(&bytes[..m]), x.bits, rest);
     let key = Key {
-        d: names::main_dictionary(k),
+        d: kind_table::main_dictionary(k),
         h: y.h,
         front: Mode::Raw,
         rest: Mode::Raw,
@@ -155,10 +155,10 @@ fn find_str(pages: &[u8], lists: &[u8], s: Sizes, k: usize, text: &[u8], tag: &[
     ensures ended { λ r. ⌜ Ended s (now (pages .entry)) (now (lists .entry)) k [] (row k .rest (entered k (now (text .entry)) (now (tag .entry)))) r ⌝ }
     ensures ascii { λ r. ⌜ (r .ascii ≡ true → (isText (now (text .entry)) ≡ true) × (isText (now (tag .entry)) ≡ true)) ⌝ }
 {
-    let mode = names::front_mode(k);
+    let mode = kind_table::front_mode(k);
     let x = fnv::scan(parts::hash_on(fnv::START, mode, tag), 0, text);
     let key = Key {
-        d: names::main_dictionary(k),
+        d: kind_table::main_dictionary(k),
         h: x.h,
         front: mode,
         rest: Mode::Raw,
@@ -191,7 +191,7 @@ pub fn find_name<'a>(
     ensures ended { λ r. ⌜ SearchEnded s (now (pages .entry)) (now (lists .entry)) (entered kind (now (first .entry)) (now (second .entry))) r ⌝ }
     ensures ascii { λ r. ⌜ (r .ascii ≡ true → (isText (now (first .entry)) ≡ true) × (isText (now (second .entry)) ≡ true)) ⌝ }
 {
-    if !names::has_heads(kind) {
+    if !kind_table::has_heads(kind) {
         return find_str(&pages[..], &lists[..], s, kind, &first[..], &second[..]);
     }
     // An IRI and a typed value differ in where head and rest lie.

@@ -19,8 +19,9 @@ use Rattle.layout.proofs.Ranges.{limit-fits}
 use Rattle.model.specs.Names.{entered}
 use Rattle.model.specs.Kinds.{Way, splits, whole, packs, pairs, hasHeads, row}
 use Rattle.model.proofs.Legal.{legal-shape}
-use Rattle.names.specs.Given.{IsPair, frontMode}
-use Rattle.names.proofs.Rows.{shape-second}
+use Rattle.kind_table.specs.Rows.{frontMode}
+use Rattle.names.specs.Given.{IsPair}
+use Rattle.names.proofs.Second.{shape-second}
 use Rattle.names.proofs.Pairs.{is-pair, rest-short}
 use Rattle.search.specs.Found.{keyBehind}
 use Rattle.search.proofs.Keys.{raw-key, string-key, string-paged, lead-paged, paged-fits}

@@ -1,7 +1,7 @@
 -- By the way of the row. Assumes nothing.
 use mathlib.Core.Path.{sym, ap, _∙_}
 use Rattle.model.specs.Kinds.{hasHeads}
-use Rattle.names.specs.Given.{wayOf}
+use Rattle.kind_table.specs.Rows.{wayOf}
 use borrow.Author.Needs.{needs}
 use Rattle.locate.proofs.locate_entry.Statement.{statement}
 use Rattle.locate.proofs.locate_entry.Tie as tie

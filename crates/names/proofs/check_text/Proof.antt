@@ -13,7 +13,7 @@ use Rattle.refusals.specs.Checked.{checkedBy}
 use Rattle.model.specs.Names.{Name, entered}
 use Rattle.model.specs.Kinds.{row}
 use Rattle.model.specs.Steps.{textRefusal}
-use Rattle.names.proofs.Rows.{empty-by-length}
+use Rattle.names.proofs.Second.{empty-by-length}
 use Rattle.names.proofs.check_text.Statement.{statement}
 use Rattle.names.proofs.check_text.Tie as tie
 

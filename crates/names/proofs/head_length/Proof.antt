@@ -8,7 +8,8 @@ use lib.ListN.{length}
 use Rattle.ranked_pair_iri_dv_dict.specs.declared.Head.{Head}
 use Rattle.ranked_pair_iri_dv_dict.specs.Split.{lengthOf}
 use Rattle.model.specs.Kinds.{row}
-use Rattle.names.specs.Given.{isSplit, headSize}
+use Rattle.kind_table.specs.Rows.{isSplit}
+use Rattle.names.specs.Given.{headSize}
 use Rattle.names.proofs.Pairs.{whole-head, iri-head}
 use borrow.Author.Needs.{needs}
 use Rattle.names.proofs.head_length.Statement.{statement}

@@ -11,7 +11,7 @@ use Rattle.layout.specs.Sizes.{kinds}
 use Rattle.model.specs.Names.{entered}
 use Rattle.model.specs.Kinds.{row}
 use Rattle.model.specs.Steps.{badKind}
-use Rattle.names.proofs.Rows.{empty-by-length}
+use Rattle.names.proofs.Second.{empty-by-length}
 use borrow.Author.Needs.{needs}
 use Rattle.names.proofs.is_bad_kind.Statement.{statement}
 use Rattle.names.proofs.is_bad_kind.Tie as tie

@@ -11,7 +11,7 @@ use Rattle.model.specs.Names.{Name, entered}
 use Rattle.model.specs.Kinds.{Way, splits, whole, packs, pairs, hasHeads, headBy, row}
 use Rattle.model.proofs.Legal.{legal-shape}
 use Rattle.names.specs.Given.{IsPair}
-use Rattle.names.proofs.Rows.{shape-second}
+use Rattle.names.proofs.Second.{shape-second}
 use Rattle.names.proofs.Pairs.{is-pair, rest-short}
 use Rattle.search.specs.Found.{EndedBy}
 use Rattle.search.proofs.Ascii.{pair-ascii}

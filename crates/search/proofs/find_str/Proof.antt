@@ -14,7 +14,7 @@ use Rattle.bytes_key.specs.Keys.{keyBytes}
 use Rattle.model.specs.Names.{entered}
 use Rattle.model.specs.Kinds.{row}
 use Rattle.model.proofs.Legal.{legal-shape}
-use Rattle.names.proofs.Rows.{shape-second}
+use Rattle.names.proofs.Second.{shape-second}
 use Rattle.search.specs.declared.Sought.{Sought}
 use Rattle.search.specs.Found.{EndedBy}
 use Rattle.search.proofs.Keys.{scanned-hash, on-hash, string-paged, paged-fits, string-key}

@@ -4,12 +4,12 @@ use mathlib.Core.Path.{_≡_, refl, sym, subst}
 use native.Mathlib.Omega.{arith}
 use Rattle.layout.specs.Sizes.{kinds}
 use Rattle.model.specs.Kinds.{Row, plain, rowAt, byRow, row}
-use Rattle.names.specs.declared.Row as Held
-use Rattle.names.specs.Given.{IsRow}
-use Rattle.names.proofs.Rows.{plain-row}
+use Rattle.kind_table.specs.declared.Row as Held
+use Rattle.kind_table.specs.Rows.{IsRow}
+use Rattle.kind_table.proofs.Rows.{plain-row}
 use borrow.Author.Needs.{needs}
-use Rattle.names.proofs.row_of.Statement.{statement}
-use Rattle.names.proofs.row_of.Tie as tie
+use Rattle.kind_table.proofs.row_of.Statement.{statement}
+use Rattle.kind_table.proofs.row_of.Tie as tie
 
 is-plain : (k : ℕ) (r : Held.Row) → rowAt k ≡ plain → IsRow (byRow plain) r → IsRow (row k) r
 is-plain k r e h = subst (λ (x : Row). IsRow (byRow x) r) (sym e) h

@@ -1,10 +1,10 @@
 -- By the way of the row. Assumes nothing.
 use mathlib.Core.Path.{sym, ap, _∙_}
-use Rattle.names.specs.Given.{wayOf}
+use Rattle.kind_table.specs.Rows.{wayOf}
 use Rattle.model.specs.Kinds.{hasHeads}
 use borrow.Author.Needs.{needs}
-use Rattle.names.proofs.has_heads.Statement.{statement}
-use Rattle.names.proofs.has_heads.Tie as tie
+use Rattle.kind_table.proofs.has_heads.Statement.{statement}
+use Rattle.kind_table.proofs.has_heads.Tie as tie
 
 row-of-requires : tie.Need-row-of-requires
 row-of-requires c κs = search needs

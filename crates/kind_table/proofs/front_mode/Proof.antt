@@ -1,9 +1,9 @@
 -- By the way of the row. Assumes nothing.
 use mathlib.Core.Path.{sym, ap, _∙_}
-use Rattle.names.specs.Given.{wayOf, isSplit}
+use Rattle.kind_table.specs.Rows.{wayOf, frontMode}
 use borrow.Author.Needs.{needs}
-use Rattle.names.proofs.is_split.Statement.{statement}
-use Rattle.names.proofs.is_split.Tie as tie
+use Rattle.kind_table.proofs.front_mode.Statement.{statement}
+use Rattle.kind_table.proofs.front_mode.Tie as tie
 
 row-of-requires : tie.Need-row-of-requires
 row-of-requires c κs = search needs
@@ -21,19 +21,19 @@ enum-told-4 : tie.Need-enum-told-4
 enum-told-4 c = search needs
 
 returns : tie.Need-returns
-returns c = ap isSplit (ap wayOf (sym (c .enum-told .given .1)) ∙ c .before .before .row-of .ensures .way)
+returns c = ap frontMode (ap wayOf (sym (c .enum-told .given .1)) ∙ c .before .before .row-of .ensures .way)
 
 returns-2 : tie.Need-returns-2
-returns-2 c = ap isSplit (ap wayOf (sym (c .enum-told2 .given .1)) ∙ c .before .before .row-of .ensures .way)
+returns-2 c = ap frontMode (ap wayOf (sym (c .enum-told2 .given .1)) ∙ c .before .before .row-of .ensures .way)
 
 returns-3 : tie.Need-returns-3
-returns-3 c = ap isSplit (ap wayOf (sym (c .enum-told3 .given .1)) ∙ c .before .before .row-of .ensures .way)
+returns-3 c = ap frontMode (ap wayOf (sym (c .enum-told3 .given .1)) ∙ c .before .before .row-of .ensures .way)
 
 returns-4 : tie.Need-returns-4
-returns-4 c = ap isSplit (ap wayOf (sym (c .enum-told4 .given .1)) ∙ c .before .before .row-of .ensures .way)
+returns-4 c = ap frontMode (ap wayOf (sym (c .enum-told4 .given .1)) ∙ c .before .before .row-of .ensures .way)
 
-pub is-split-spec : {M : Type 1} → statement M
-is-split-spec =
+pub front-mode-spec : {M : Type 1} → statement M
+front-mode-spec =
     tie.close
     (tie.spec
     row-of-requires
