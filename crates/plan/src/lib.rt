@@ -94,7 +94,8 @@ fn check_room(lists: &[u8], s: Sizes, k: usize, f: usize) -> Room
     requires { ⌜ InRange s × (listBytes s ≤ length (now lists)) × (k < kinds) ⌝ }
     ensures { λ r. ⌜ RoomIn s (now (lists .entry)) k f r ⌝ }
 {
-    let Counted::Entries(n) = bytes_dictionary::count(lists, s, kind_table::main_dictionary(k)) else {
+    let Counted::Entries(n) = bytes_dictionary::count(lists, s, kind_table::main_dictionary(k))
+    else {
         return Room::Refused(Refusal::Unopened);
     };
     if s.e <= n || s.e <= f {
