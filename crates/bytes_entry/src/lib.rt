@@ -56,7 +56,7 @@ fn place_word(n: usize, h: u32) -> usize
     requires { ⌜ n < 1048576 ⌝ }
     ensures { λ r. ⌜ r ≡ placeWord n h ⌝ }
 {
-    n + 1 + ENTRY_NUMBERS * bytes_index::top_bits(h)
+    n + 1 + ENTRY_NUMBERS * bytes_key::top_bits(h)
 }
 
 // A fresh entry: its number in its dictionary, the index place that names it, and its stamp.

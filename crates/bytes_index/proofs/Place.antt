@@ -1,8 +1,8 @@
--- Where a search goes: one step up wraps at m, and m steps visit every place. Assumes nothing.
+-- Where a search goes: m steps visit every place. Assumes nothing.
 use mathlib.Core.Path.{_≡_, _∙_, sym, ap}
 use Prim.Native.Nat.{ℕ, _+_, _-_, _%_, _≤_, _<_}
 use native.Mathlib.Omega.{arith}
-use native.Mathlib.Nat.{mod-lt, mod-eq-of-lt, mod-add-mod, add-mod-right, mod-self, add-zero}
+use native.Mathlib.Nat.{mod-lt, mod-eq-of-lt, mod-add-mod, add-mod-right, add-zero}
 use native.Mathlib.Decide.{decLe}
 use Rattle.bytes_index.specs.Place.{placeAfter}
 
@@ -19,13 +19,6 @@ unfolding placeAfter
 place-next m h k =
     let e : h + (k + 1) ≡ h + k + 1 = omega arith in
     rw e (sym (mod-add-mod (h + k) m 1))
-
--- One step up, as the code makes it.
-pub up-inside : (m j : ℕ) → j + 1 < m → (j + 1) % m ≡ j + 1
-up-inside m j l = mod-eq-of-lt l
-
-pub up-wraps : (m j : ℕ) → j + 1 ≡ m → (j + 1) % m ≡ 0
-up-wraps m j e = rw e (mod-self m)
 
 -- Each place is visited within m steps.
 pub record Visit (m h j : ℕ) : Type 0 where

@@ -1,16 +1,15 @@
-// The index in which a dictionary's entries are searched. It replaces the HashMap of Nemo's bytes_dictionary.rs. The comparison of keys is in bytes_key.
+// The index in which a dictionary's entries are searched. It replaces the HashMap of Nemo's bytes_dictionary.rs. The places of a search and the comparison of keys are in bytes_key.
 use bytes_key::Key;
 use layout::ENTRY_NUMBERS;
 use layout::LENGTH;
 use layout::OFFSETS;
 use layout::PAGE_NUMBERS;
 use layout::Sizes;
-ghost use mathlib.Core.Path.{_≡_};
-ghost use Prim.Native.Nat.{_+_, _*_, _%_, _^_, _≤_, _<_};
+ghost use Prim.Native.Nat.{_≤_, _<_};
 ghost use lib.ListN.{length};
 ghost use Rattle.words.specs.Words.{wordAt};
 ghost use Rattle.layout.specs.Sizes.{InRange, dictionaries, listBytes};
-ghost use Rattle.layout.specs.Fields.{entryAt, topOf};
+ghost use Rattle.layout.specs.Fields.{entryAt};
 ghost use Rattle.layout.specs.Header.{Lent};
 ghost use Rattle.bytes_index.specs.Field.{SpanOf};
 ghost use Rattle.bytes_key.specs.Keys.{bytesIn, IsKey};
@@ -27,32 +26,6 @@ pub enum Probe {
 pub enum Span {
     At { at: usize, len: usize },
     Bad,
-}
-
-// The place where the search starts.
-fn start(h: u32, m: usize) -> usize
-    requires { ⌜ 0 < m ⌝ }
-    ensures { λ r. ⌜ r ≡ h % m ⌝ }
-{
-    let h = h as usize;
-    h % m
-}
-
-// The top bits of a hash, which an index place holds.
-pub fn top_bits(h: u32) -> usize
-    ensures { λ r. ⌜ (r ≡ topOf h) × (r < 2048) ⌝ }
-{
-    let h = h as usize;
-    h / ENTRY_NUMBERS
-}
-
-// One place up, wrapping to 0.
-fn up(j: usize, m: usize) -> usize
-    requires { ⌜ j < m ⌝ }
-    ensures { λ r. ⌜ r ≡ (j + 1) % m ⌝ }
-{
-    let k = j + 1;
-    if k == m { 0 } else { k }
 }
 
 // Where the bytes of entry i of dictionary d lie.
@@ -90,8 +63,8 @@ fn probe_index(pages: &[u8], lists: &[u8], s: Sizes, key: Key, front: &[u8], res
     let places = 2 * (layout::dict_at(s, d) + m);
     let measured = parts::measure(mode, front);
     let n = parts::measure(restmode, rest);
-    let top = top_bits(key.h);
-    let mut j = start(key.h, m);
+    let top = bytes_key::top_bits(key.h);
+    let mut j = bytes_key::start(key.h, m);
     let mut t = 0;
     let mut w = 0;
     'probe: loop {
@@ -128,7 +101,7 @@ fn probe_index(pages: &[u8], lists: &[u8], s: Sizes, key: Key, front: &[u8], res
                 }
             }
         }
-        j = up(j, m);
+        j = bytes_key::up(j, m);
         t += 1;
     }
     let i = w - 1;

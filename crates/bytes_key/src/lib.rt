@@ -1,9 +1,11 @@
-// A key: its bytes in two parts, how many they are, and their comparison with stored bytes.
+// A key: its bytes in two parts, how many they are, the places of its search, and its comparison with stored bytes.
+use layout::ENTRY_NUMBERS;
 use parts::Mode;
 ghost use mathlib.Core.Path.{_≡_};
-ghost use Prim.Native.Nat.{_^_, _≤_, _<_};
+ghost use Prim.Native.Nat.{_+_, _%_, _^_, _≤_, _<_};
 ghost use lib.ListN.{length};
 ghost use Rattle.parts.specs.Parts.{bytesOf};
+ghost use Rattle.layout.specs.Fields.{topOf};
 ghost use Rattle.bytes_key.specs.Keys.{bytesIn, frontIs, Agreeing};
 
 // A key to search or to store, without its bytes: its dictionary, its hash, and the modes of its front and of its rest. The caller computes the hash, because
@@ -23,6 +25,32 @@ pub fn key_length(key: Key, front: &[u8], rest: &[u8]) -> usize
     let mode = key.front;
     let restmode = key.rest;
     parts::measure(mode, front) + parts::measure(restmode, rest)
+}
+
+// The place where the search starts.
+pub fn start(h: u32, m: usize) -> usize
+    requires { ⌜ 0 < m ⌝ }
+    ensures { λ r. ⌜ r ≡ h % m ⌝ }
+{
+    let h = h as usize;
+    h % m
+}
+
+// The top bits of a hash, which an index place holds.
+pub fn top_bits(h: u32) -> usize
+    ensures { λ r. ⌜ (r ≡ topOf h) × (r < 2048) ⌝ }
+{
+    let h = h as usize;
+    h / ENTRY_NUMBERS
+}
+
+// One place up, wrapping to 0.
+pub fn up(j: usize, m: usize) -> usize
+    requires { ⌜ j < m ⌝ }
+    ensures { λ r. ⌜ r ≡ (j + 1) % m ⌝ }
+{
+    let k = j + 1;
+    if k == m { 0 } else { k }
 }
 
 // Whether a stored key begins with the front and has `rest` bytes more. The front's stored length is `measured`.

@@ -2,9 +2,9 @@
 use mathlib.Core.Path.{sym}
 use native.Mathlib.Omega.{arith}
 use borrow.Author.Needs.{needs}
-use Rattle.bytes_index.proofs.Place.{up-wraps, up-inside}
-use Rattle.bytes_index.proofs.up.Statement.{statement}
-use Rattle.bytes_index.proofs.up.Tie as tie
+use Rattle.bytes_key.proofs.Wraps.{up-wraps, up-inside}
+use Rattle.bytes_key.proofs.up.Statement.{statement}
+use Rattle.bytes_key.proofs.up.Tie as tie
 
 add-k : tie.Need-add-k
 add-k c = search needs
