@@ -1,45 +1,12 @@
-// The dictionary in lent memory: open and add, which write it. Each takes any memory and any arguments, and answers or refuses as document 01 says.
+// The entry that adds a name to the dictionary in lent memory. It takes any memory and any arguments, and answers or refuses as document 01 says.
 use commit::AddResult;
 use layout::Header;
-use layout::Made;
-use layout::Sizes;
 use refusals::Checked;
 use refusals::Refusal;
 use search::Search;
 ghost use Rattle.model.specs.Names.{entered};
-ghost use Rattle.memory.specs.Promises.{OpenPost, AddPost};
+ghost use Rattle.memory.specs.Promises.{AddPost};
 ghost use Rattle.commit.specs.Answers.{addedBy};
-ghost use Rattle.dictionary.specs.Answers.{openedBy};
-
-pub enum OpenResult {
-    Done,
-    Refused(Refusal),
-}
-
-// Makes the memory a dictionary with no names: page width p, pages n, list length e, block width w, blocks b.
-pub fn open(
-    pages: &[u8],
-    lists: &mut [u8],
-    p: usize,
-    n: usize,
-    e: usize,
-    w: usize,
-    b: usize,
-) -> OpenResult
-    ensures { λ r. ⌜ OpenPost (record { p = p; n = n; e = e; w = w; b = b }) (now (pages .entry)) (now (lists .entry)) (openedBy r) (now (pages .exit)) (now (lists .exit)) ⌝ }
-{
-    let Made::Fit(s) = Sizes::new(p, n, e, w, b) else {
-        return OpenResult::Refused(Refusal::BadSize);
-    };
-    if pages.len() < layout::page_bytes(s) {
-        return OpenResult::Refused(Refusal::ShortMemory);
-    }
-    if lists.len() < layout::list_bytes(s) {
-        return OpenResult::Refused(Refusal::ShortMemory);
-    }
-    layout::init(lists, s);
-    OpenResult::Done
-}
 
 // Gives a name its number: a new one, or the one that it has. Both parts have one lifetime, since the rest may lie in either.
 pub fn add<'a>(

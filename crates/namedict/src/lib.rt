@@ -87,7 +87,7 @@ pub extern "C" fn namedict_open(
 ) -> u64
     ensures { λ r. ⌜ OpenReturned (record { p = «page_width»; n = «page_count»; e = «list_length»; w = «block_width»; b = «block_count» }) (now (pages .entry)) (now (lists .entry)) r (now (pages .exit)) (now (lists .exit)) ⌝ }
 {
-    let answer = dictionary::open(
+    let answer = dictionary_open::open(
         pages,
         lists,
         page_width as usize,

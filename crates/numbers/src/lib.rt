@@ -1,14 +1,14 @@
 // What the exported entries of the dictionary return: structs of numbers, and the numbers of each answer. include/namedict.h declares the structs. The leaf
 // rules have theirs in leaf_numbers.
 use commit::AddResult;
-use dictionary::OpenResult;
+use dictionary_open::OpenResult;
 use dictionary_read::CountResult;
 use dictionary_read::FindResult;
 use dictionary_read::ReadResult;
 use refusals::Refusal;
 ghost use mathlib.Core.Path.{_≡_};
 ghost use Rattle.commit.specs.Answers.{addedBy};
-ghost use Rattle.dictionary.specs.Answers.{openedBy};
+ghost use Rattle.dictionary_open.specs.Answers.{openedBy};
 ghost use Rattle.dictionary_read.specs.Answers.{foundBy, toldBy, countedBy};
 ghost use Rattle.numbers.specs.Numbers.{openNumber, refusedNumbers, addNumbers, findNumbers, nameNumbers, countNumbers};
 

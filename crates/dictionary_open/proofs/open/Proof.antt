@@ -5,10 +5,10 @@ use native.Mathlib.Omega.{arith}
 use lib.ListN.{length}
 use Rattle.layout.specs.declared.Made.the-variants.{Fit}
 use Rattle.layout.specs.Sizes.{made, pageBytes, listBytes}
-use Rattle.dictionary.proofs.Opens.{made-range, open-bad, open-short-pages, open-short-lists, open-done}
+use Rattle.dictionary_open.proofs.Opens.{made-range, open-bad, open-short-pages, open-short-lists, open-done}
 use borrow.Author.Needs.{needs}
-use Rattle.dictionary.proofs.open.Statement.{statement}
-use Rattle.dictionary.proofs.open.Tie as tie
+use Rattle.dictionary_open.proofs.open.Statement.{statement}
+use Rattle.dictionary_open.proofs.open.Tie as tie
 
 -- The function's start, from where the sizes were known; that place, from where the pages fit; and that, from where the lists do.
 abbrev start : tie.After-s → tie.Start
