@@ -11,11 +11,12 @@ use Rattle.layout.specs.Sizes.{InRange, dictionaries, pageSize, listBytes}
 use Rattle.layout.specs.Fields.{untakenAt, currentAt, takenAt, pageAt, pageWord}
 use Rattle.layout.proofs.Ranges.{page-size}
 use Rattle.bytes_buffer.specs.Pages.{Space, fits, grownAt, allPages}
-use Rattle.bytes_buffer.specs.Spots.{currentOf, withUsed, extendedPage, pagesOf, tookPage}
+use Rattle.page_words.specs.Written.{withUsed, extendedPage, pagesOf, tookPage}
+use Rattle.bytes_buffer.specs.Spots.{currentOf}
 use Rattle.bytes_buffer.specs.Tables.{PagesAt}
 use Rattle.bytes_buffer.proofs.Pages.{size-is, fits-facts, taken-most}
 use Rattle.bytes_buffer.proofs.Tables.{current-below}
-use Rattle.bytes_buffer.proofs.Words.{extended-same, extended-other, took-other, took-untaken, took-current, took-count, took-page}
+use Rattle.page_words.proofs.Words.{extended-same, extended-other, took-other, took-untaken, took-current, took-count, took-page}
 use Rattle.bytes_buffer.proofs.Steps.{Kept, extend-kept, extend-keeps, take-kept, take-keeps}
 
 -- A page's word lies in `lists`.

@@ -3,6 +3,5 @@ pub mod Spots
 pub mod Pages
 pub mod Tables
 pub mod Plans
-pub mod Words
 pub mod Steps
 pub mod Commits

@@ -11,7 +11,8 @@ use Rattle.layout.specs.Fields.{untakenAt, currentAt, takenAt, pageAt, pageWord
 use Rattle.layout.proofs.Ranges.{page-size}
 use Rattle.layout.proofs.Places.{page-word}
 use Rattle.bytes_buffer.specs.Pages.{Space, fits, grown, grownAt, allPages}
-use Rattle.bytes_buffer.specs.Spots.{currentOf, withUsed}
+use Rattle.page_words.specs.Written.{withUsed}
+use Rattle.bytes_buffer.specs.Spots.{currentOf}
 use Rattle.bytes_buffer.specs.Tables.{Owned, CurrentPage, PagesAt}
 use Rattle.bytes_buffer.proofs.Pages.{size-is, fits-facts, grown-fit, grown-unfit, grown-taken, grown-same, grown-other, pages-fit, pages-unfit}
 use Rattle.bytes_buffer.proofs.Tables.{current-below, apart}

@@ -20,7 +20,7 @@ use Rattle.bytes_index.specs.Entries.{Entries, Misses}
 use Rattle.bytes_index.proofs.Place.{place-lt}
 use Rattle.bytes_buffer.specs.declared.Spot.{Spot}
 use Rattle.bytes_buffer.specs.declared.Spot.the-variants.{Current, Next, NoPage, Bad}
-use Rattle.bytes_buffer.proofs.Words.{extended-other, extended-beyond, took-other, took-beyond}
+use Rattle.page_words.proofs.Words.{extended-other, extended-beyond, took-other, took-beyond}
 use Rattle.bytes_entry.specs.Written.{entryWritten}
 use Rattle.bytes_dictionary.specs.Written.{pagesAfter, listsAfter, HasRoom}
 use Rattle.bytes_dictionary.proofs.Steps.{Off, off-below, off-behind, word-kept, place-kept}

@@ -14,10 +14,11 @@ use Rattle.layout.specs.Sizes.{InRange, dictionaries, pageSize, listBytes}
 use Rattle.layout.specs.Fields.{currentAt, pageAt, countAt, entryAt, orderAt, placeAt, ownerOf, usedOf, positionOf}
 use Rattle.layout.proofs.Places.{dict-from}
 use Rattle.bytes_buffer.specs.Pages.{Space, fits, grownAt, allPages}
-use Rattle.bytes_buffer.specs.Spots.{currentOf, extendedPage, tookPage}
+use Rattle.page_words.specs.Written.{extendedPage, tookPage}
+use Rattle.bytes_buffer.specs.Spots.{currentOf}
 use Rattle.bytes_buffer.specs.Tables.{PagesAt}
 use Rattle.bytes_buffer.proofs.Pages.{fits-facts, grown-fit, grown-unfit, grown-taken, grown-same}
-use Rattle.bytes_buffer.proofs.Words.{extended-other, extended-beyond, took-other, took-beyond, took-current}
+use Rattle.page_words.proofs.Words.{extended-other, extended-beyond, took-other, took-beyond, took-current}
 use Rattle.bytes_buffer.proofs.Tables.{SameTables, current-below, fresh, owned-below, used-inside}
 use Rattle.bytes_buffer.proofs.Tables.{last as last-page}
 use Rattle.bytes_buffer.proofs.Steps.{Kept}

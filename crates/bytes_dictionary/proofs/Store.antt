@@ -23,11 +23,12 @@ use Rattle.bytes_index.proofs.Index.{place-fits}
 use Rattle.bytes_buffer.specs.declared.Spot.{Spot}
 use Rattle.bytes_buffer.specs.declared.Spot.the-variants.{Current, Next, NoPage, Bad}
 use Rattle.bytes_buffer.specs.Pages.{fits, upd, grownAt, allPages}
-use Rattle.bytes_buffer.specs.Spots.{nextOf, currentOf, spotIn, extendedPage, tookPage}
+use Rattle.page_words.specs.Written.{extendedPage, tookPage}
+use Rattle.bytes_buffer.specs.Spots.{nextOf, currentOf, spotIn}
 use Rattle.bytes_buffer.proofs.Pages.{size-is, fits-facts}
 use Rattle.bytes_buffer.specs.Tables.{PagesAt}
 use Rattle.bytes_buffer.proofs.Spots.{next-is, next-none}
-use Rattle.bytes_buffer.proofs.Words.{length-extended, length-took}
+use Rattle.page_words.proofs.Words.{length-extended, length-took}
 use Rattle.bytes_buffer.proofs.Tables.{SameTables, framed, current-below}
 use Rattle.bytes_buffer.proofs.Plans.{plan-fit, plan-unfit}
 use Rattle.bytes_buffer.proofs.Commits.{extended-holds, took-holds}

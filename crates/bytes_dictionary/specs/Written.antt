@@ -8,7 +8,7 @@ use Rattle.layout.specs.declared.Sizes.{Sizes}
 use Rattle.layout.specs.Sizes.{pageSize}
 use Rattle.bytes_buffer.specs.declared.Spot.{Spot}
 use Rattle.bytes_buffer.specs.declared.Spot.the-variants.{Current, Next, NoPage, Bad}
-use Rattle.bytes_buffer.specs.Spots.{extendedPage, tookPage}
+use Rattle.page_words.specs.Written.{extendedPage, tookPage}
 use Rattle.bytes_entry.specs.Written.{entryWritten}
 use Rattle.bytes_dictionary.specs.declared.Room.{Room}
 use Rattle.bytes_dictionary.specs.declared.Room.the-variants.{At, Nothing}

@@ -79,8 +79,8 @@ pub fn insert(
     let lies = Extent { page, offset, len };
     bytes_entry::place_entry(pages, lists, s, key, x, lies, front, rest);
     match spot {
-        Spot::Current { page: _, offset: _ } => bytes_buffer::extend(lists, page, offset + len),
-        Spot::Next(_) => bytes_buffer::take_page(lists, key.d, page, len),
+        Spot::Current { page: _, offset: _ } => page_words::extend(lists, page, offset + len),
+        Spot::Next(_) => page_words::take_page(lists, key.d, page, len),
         Spot::NoPage => {}
         Spot::Bad => {}
     }

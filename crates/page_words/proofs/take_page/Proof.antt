@@ -1,8 +1,8 @@
 -- The four words put are those of `tookPage`. Assumes nothing.
-use Rattle.bytes_buffer.specs.Spots.{tookPage}
+use Rattle.page_words.specs.Written.{tookPage}
 use borrow.Author.Needs.{needs}
-use Rattle.bytes_buffer.proofs.take_page.Statement.{statement}
-use Rattle.bytes_buffer.proofs.take_page.Tie as tie
+use Rattle.page_words.proofs.take_page.Statement.{statement}
+use Rattle.page_words.proofs.take_page.Tie as tie
 
 mul-word-at : tie.Need-mul-word-at
 mul-word-at c = search needs

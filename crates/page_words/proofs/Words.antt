@@ -1,4 +1,4 @@
--- The words of `lists` after an entry. Assumes nothing.
+-- The words of `lists` after a page was extended or taken, one by one. Assumes nothing.
 use Prim.Native.Nat.{ℕ, _+_, _*_, _^_, _≤_, _<_}
 use mathlib.Core.Path.{_≡_, _∙_}
 use mathlib.Core.Logic.{_≢_}
@@ -9,7 +9,7 @@ use Rattle.words.specs.Words.{wordAt}
 use Rattle.words.proofs.Laws.{length-setWord, getD-setWord, word-set-same, word-set-other}
 use Rattle.layout.specs.Sizes.{dictionaries}
 use Rattle.layout.specs.Fields.{untakenAt, currentAt, takenAt, pageAt, pageWord}
-use Rattle.bytes_buffer.specs.Spots.{withUsed, extendedPage, pagesOf, tookPage}
+use Rattle.page_words.specs.Written.{withUsed, extendedPage, pagesOf, tookPage}
 
 -- ---- the current page's used part grows
 

@@ -1,8 +1,8 @@
 -- The word put is the page's own with another used part. Assumes nothing.
-use Rattle.bytes_buffer.specs.Spots.{extendedPage}
+use Rattle.page_words.specs.Written.{extendedPage}
 use borrow.Author.Needs.{needs}
-use Rattle.bytes_buffer.proofs.extend.Statement.{statement}
-use Rattle.bytes_buffer.proofs.extend.Tie as tie
+use Rattle.page_words.proofs.extend.Statement.{statement}
+use Rattle.page_words.proofs.extend.Tie as tie
 
 add-word-at : tie.Need-add-word-at
 add-word-at c = search needs
