@@ -1,3 +1,2 @@
--- Laws of a plan: what its steps answer, and what it says as a whole.
-pub mod Steps
+-- Laws of a plan: what it says as a whole.
 pub mod Plans

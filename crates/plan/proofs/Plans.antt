@@ -30,9 +30,9 @@ use Rattle.memory.specs.Stands.{Stands}
 use Rattle.memory.specs.Promises.{NumberWithin}
 use Rattle.memory.proofs.Probes.{main-below, head-below}
 use Rattle.memory.proofs.Counts.{main-counted, next-count, lowest-is-known, spot-known}
-use Rattle.plan.specs.declared.Chosen.{Chosen}
-use Rattle.plan.specs.declared.Chosen.the-variants as R
-use Rattle.plan.specs.Steps.{spotChecked, chosenBy, Chooses, countWord, Counts, Uncounted, bad-count, full-list, bad-page}
+use Rattle.plan_room.specs.declared.Chosen.{Chosen}
+use Rattle.plan_room.specs.declared.Chosen.the-variants as R
+use Rattle.plan_room.specs.Steps.{spotChecked, chosenBy, Chooses, countWord, Counts, Uncounted, bad-count, full-list, bad-page}
 use Rattle.plan.specs.declared.Planned.the-variants as P
 use Rattle.plan.specs.Plans.{headSpotAt, headSpot, mainSpot, NoRoom, full, headless, pageless, blockless, Plans}
 

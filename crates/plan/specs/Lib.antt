@@ -1,3 +1,2 @@
 -- The definitions of this crate, by subject.
-pub mod Steps
 pub mod Plans

@@ -28,7 +28,7 @@ use Rattle.plan.specs.declared.HeadPlanned.the-variants as H
 use Rattle.plan.specs.declared.Plan.{Plan}
 use Rattle.plan.specs.declared.Planned.{Planned}
 use Rattle.plan.specs.declared.Planned.the-variants.{Ready, Refused}
-use Rattle.plan.specs.Steps.{spotChecked}
+use Rattle.plan_room.specs.Steps.{spotChecked}
 
 -- `new`: is the head a new one? `untaken` is the lowest untaken page, `size` the head's length, `len` the key's.
 

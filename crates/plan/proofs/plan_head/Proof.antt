@@ -7,7 +7,7 @@ use Rattle.words.specs.Words.{wordAt}
 use Rattle.bytes_buffer.specs.Spots.{spotIn}
 use Rattle.bytes_dictionary.proofs.Written.{plan-room}
 use Rattle.model.specs.Kinds.{row}
-use Rattle.plan.specs.Steps.{spotChecked}
+use Rattle.plan_room.specs.Steps.{spotChecked}
 use Rattle.plan.proofs.Plans.{spot-legal}
 use borrow.Author.Needs.{needs}
 use Rattle.plan.proofs.plan_head.Statement.{statement}

@@ -8,7 +8,7 @@ use Rattle.bytes_buffer.proofs.Spots.{lowest-page}
 use Rattle.bytes_dictionary.specs.Written.{IsSpot}
 use Rattle.model.specs.Kinds.{row}
 use Rattle.plan.specs.declared.HeadPlanned.the-variants.{At}
-use Rattle.plan.specs.Steps.{Chooses, Counts, RoomIn}
+use Rattle.plan_room.specs.Steps.{Chooses, Counts, RoomIn}
 use Rattle.plan.specs.Plans.{PlansHead}
 use Rattle.plan.proofs.Plans.{spot-legal, plans-roomless, plans-headless, plans-pageless, plans-blockless, plans-ready}
 use borrow.Author.Needs.{needs}

@@ -1,7 +1,7 @@
 -- Each answer by its case. Assumes nothing.
 use borrow.Author.Needs.{needs}
-use Rattle.plan.proofs.refuse_block.Statement.{statement}
-use Rattle.plan.proofs.refuse_block.Tie as tie
+use Rattle.plan_room.proofs.refuse_block.Statement.{statement}
+use Rattle.plan_room.proofs.refuse_block.Tie as tie
 
 enum-told : tie.Need-enum-told
 enum-told c = search needs

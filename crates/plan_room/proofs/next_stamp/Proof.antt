@@ -6,11 +6,11 @@ use native.Mathlib.Numerals.{add-one}
 use Rattle.layout.specs.Sizes.{kinds}
 use Rattle.bytes_buffer.specs.Pages.{sum}
 use Rattle.bytes_dictionary.proofs.Reading.{counted-by}
-use Rattle.plan.specs.Steps.{countWord}
-use Rattle.plan.proofs.Steps.{counted-main, sum-bound, sum-few, stamps-bad, stamps-sum}
+use Rattle.plan_room.specs.Steps.{countWord}
+use Rattle.plan_room.proofs.Steps.{counted-main, sum-bound, sum-few, stamps-bad, stamps-sum}
 use borrow.Author.Needs.{needs}
-use Rattle.plan.proofs.next_stamp.Statement.{statement}
-use Rattle.plan.proofs.next_stamp.Tie as tie
+use Rattle.plan_room.proofs.next_stamp.Statement.{statement}
+use Rattle.plan_room.proofs.next_stamp.Tie as tie
 
 abbrev Inv-loop : tie.InvT-loop
 Inv-loop lists s t₀ k₀ t k = (k ≤ kinds) × (t ≤ k * s .e) × (t ≡ sum (countWord lists) k)

@@ -1,7 +1,7 @@
 -- Each spot by its case. Assumes nothing.
 use borrow.Author.Needs.{needs}
-use Rattle.plan.proofs.check_spot.Statement.{statement}
-use Rattle.plan.proofs.check_spot.Tie as tie
+use Rattle.plan_room.proofs.check_spot.Statement.{statement}
+use Rattle.plan_room.proofs.check_spot.Tie as tie
 
 enum-told : tie.Need-enum-told
 enum-told c = search needs

@@ -29,9 +29,9 @@ use Rattle.model.specs.Kinds.{row}
 use Rattle.model.specs.State.{State, stampOf}
 use Rattle.memory.specs.Stands.{Stands}
 use Rattle.memory.proofs.Counts.{main-counted, stamp-is}
-use Rattle.plan.specs.declared.Stamp.the-variants as T
-use Rattle.plan.specs.declared.Chosen.the-variants as R
-use Rattle.plan.specs.Steps.{blockRefused, Stamps, chosenBy, Chooses, countWord}
+use Rattle.plan_room.specs.declared.Stamp.the-variants as T
+use Rattle.plan_room.specs.declared.Chosen.the-variants as R
+use Rattle.plan_room.specs.Steps.{blockRefused, Stamps, chosenBy, Chooses, countWord}
 
 -- ---- the next stamp
 

@@ -24,12 +24,12 @@ use Rattle.blocks.specs.Blocks.{pick}
 use Rattle.model.specs.Kinds.{row}
 use Rattle.model.specs.State.{State, stampOf}
 use Rattle.memory.specs.Stands.{Stands}
-use Rattle.plan.specs.declared.Stamp.{Stamp}
-use Rattle.plan.specs.declared.Stamp.the-variants as T
-use Rattle.plan.specs.declared.Chosen.{Chosen}
-use Rattle.plan.specs.declared.Chosen.the-variants as R
-use Rattle.plan.specs.declared.Room.{Room}
-use Rattle.plan.specs.declared.Room.the-variants as M
+use Rattle.plan_room.specs.declared.Stamp.{Stamp}
+use Rattle.plan_room.specs.declared.Stamp.the-variants as T
+use Rattle.plan_room.specs.declared.Chosen.{Chosen}
+use Rattle.plan_room.specs.declared.Chosen.the-variants as R
+use Rattle.plan_room.specs.declared.Room.{Room}
+use Rattle.plan_room.specs.declared.Room.the-variants as M
 
 -- Whether an entry can be written at a spot.
 abbrev pub spotChecked : Spot → Checked

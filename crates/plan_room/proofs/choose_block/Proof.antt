@@ -1,11 +1,11 @@
 -- Each answer by its law. Assumes nothing.
 use mathlib.Core.Path.{sym, subst}
 use Rattle.blocks.specs.Answers.{Allocates}
-use Rattle.plan.specs.Steps.{Stamps, Chooses}
-use Rattle.plan.proofs.Steps.{chooses-none, chooses-unstamped, chooses-block}
+use Rattle.plan_room.specs.Steps.{Stamps, Chooses}
+use Rattle.plan_room.proofs.Steps.{chooses-none, chooses-unstamped, chooses-block}
 use borrow.Author.Needs.{needs}
-use Rattle.plan.proofs.choose_block.Statement.{statement}
-use Rattle.plan.proofs.choose_block.Tie as tie
+use Rattle.plan_room.proofs.choose_block.Statement.{statement}
+use Rattle.plan_room.proofs.choose_block.Tie as tie
 
 allocate-block-requires : tie.Need-allocate-block-requires
 allocate-block-requires c κs = search needs

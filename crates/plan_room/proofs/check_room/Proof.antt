@@ -5,11 +5,11 @@ use native.Mathlib.Omega.{arith}
 use borrow.Author.Tests.{leb-true, leb-false}
 use Rattle.bytes_dictionary.specs.declared.Counted.the-variants.{Entries}
 use Rattle.bytes_dictionary.specs.Reading.{countIn}
-use Rattle.plan.specs.Steps.{countWord, bad-count, full-list, bad-page}
-use Rattle.plan.proofs.Steps.{counted-main}
+use Rattle.plan_room.specs.Steps.{countWord, bad-count, full-list, bad-page}
+use Rattle.plan_room.proofs.Steps.{counted-main}
 use borrow.Author.Needs.{needs}
-use Rattle.plan.proofs.check_room.Statement.{statement}
-use Rattle.plan.proofs.check_room.Tie as tie
+use Rattle.plan_room.proofs.check_room.Statement.{statement}
+use Rattle.plan_room.proofs.check_room.Tie as tie
 
 -- The count that was read.
 counted : (c : tie.After-n) →
