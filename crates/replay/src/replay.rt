@@ -6,7 +6,6 @@
 //   -- TEXT  a title: prints the line as it is
 use numbers::NamedictNumbered;
 ghost use Prim.Native.Nat.{_≤_};
-ghost use lib.ListN.{length};
 
 // How many calls were made, and how many of them had another answer.
 struct Tally {

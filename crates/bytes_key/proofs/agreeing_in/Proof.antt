@@ -1,16 +1,12 @@
 -- A raw rest is its own stored bytes. Any other rest is compared at once. Assumes nothing.
-use mathlib.Core.Path.{_≡_, sym, ap, _∙_, refl}
+use mathlib.Core.Path.{_≡_, sym, ap, _∙_}
 use Prim.Native.Nat.{_-_}
-use denote.Enum.Declared.{tagOf}
 use native.Mathlib.Omega.{arith}
 use borrow.Author.Needs.{needs}
 use borrow.Author.Tests.{not-true, not-false}
 use lib.ListN.{length, take, drop}
-use Rattle.slices.specs.Bytes.{Bytes, sameBytes}
-use Rattle.parts.specs.declared.Mode.{Mode}
-use Rattle.parts.specs.declared.Mode.the-variants.{Raw, Tag}
+use Rattle.slices.specs.Bytes.{sameBytes}
 use Rattle.parts.specs.Parts.{bytesOf}
-use Rattle.parts.proofs.Mode.{the-type}
 use Rattle.bytes_key.proofs.Compared.{raw, at-once-not, at-once}
 use Rattle.bytes_key.proofs.agreeing_in.Statement.{statement}
 use Rattle.bytes_key.proofs.agreeing_in.Tie as tie
