@@ -1,4 +1,6 @@
 // A tag as it is stored in front of its text, one byte at a time: which bytes are stored for each, and how these are measured, written, hashed and compared.
+#![tactic(auto)]
+
 ghost use Rattle.std.specs.Prelude.{◌≡◌, [], ◌∷◌, ◌+◌, ◌≤◌, length, take, drop};
 ghost use Rattle.std.proofs.lemmas.List.Edits.{sets};
 ghost use Rattle.fnv.specs.Fnv.{fnvFrom};
@@ -9,14 +11,14 @@ ghost use Rattle.encoding.specs.Encoding.{formOf, firstByte, encodedByte, encode
 pub const SHORT: usize = 127;
 
 // How the bytes of a tag are stored: each field is a rule that `encode_byte` and `encode_end` follow.
-#[derive(Drop)]
+#[derive(Clone, Copy)]
 pub struct Form {
     // Escaped and closed by '>', since the byte in front does not say the length.
     long: bool,
 }
 
 // What is stored for one byte of a tag, or behind its last.
-#[derive(Drop)]
+#[derive(Clone, Copy)]
 pub enum Stored {
     Nothing,
     One(u8),

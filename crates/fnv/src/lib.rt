@@ -1,4 +1,6 @@
 // FNV-1a of 32 bits. The hash decides where the search for a stored byte string starts.
+#![tactic(auto)]
+
 ghost use Rattle.std.specs.Prelude.{◌≡◌, ◌*◌, ◌%◌, ◌^◌, ◌<◌};
 ghost use Rattle.fnv.specs.Fnv.{fnvStep, fnvFrom, fnvOf, bitsFrom};
 
@@ -22,7 +24,7 @@ pub fn fnv_step(h: u32, b: u8) -> u32
 }
 
 // A hash, and the bitwise or of the bytes. If `bits` is below 0x80, every byte is ASCII, so the bytes are text.
-#[derive(Drop)]
+#[derive(Clone, Copy)]
 pub struct Scanned {
     pub h: u32,
     pub bits: u8,

@@ -1,4 +1,6 @@
 // The check of the header, and an empty dictionary in lent memory.
+#![tactic(auto)]
+
 ghost use Rattle.std.specs.Prelude.{◌≡◌, ◌≤◌, length, replicate};
 ghost use Rattle.std.proofs.lemmas.List.Edits.{sets};
 ghost use Rattle.layout.specs.Sizes.{InRange, listBytes};
@@ -10,7 +12,7 @@ use layout::{Made, Sizes};
 // "namedic2", low byte first: the first word of every dictionary's `lists`.
 const FORMAT: usize = 0x32636964656D616E;
 
-#[derive(Drop)]
+#[derive(Clone, Copy)]
 pub enum Header {
     Opened(Sizes),
     Unopened,

@@ -1,4 +1,6 @@
 // The code's table of kinds: the row of each kind, and what is asked of it.
+#![tactic(auto)]
+
 ghost use Rattle.std.specs.Prelude.{◌≡◌, ◌<◌};
 ghost use Rattle.layout.specs.Sizes.{dictionaries};
 ghost use Rattle.model.specs.Kinds.{row};
@@ -13,7 +15,7 @@ pub const TAGGED: usize = 2;
 pub const TYPED: usize = 3;
 
 // How the parts of a name become entries: the ways of model/specs/Kinds.antt.
-#[derive(Drop)]
+#[derive(Clone, Copy)]
 pub enum Way {
     Splits,
     Whole,
@@ -22,7 +24,7 @@ pub enum Way {
 }
 
 // What the table says of a kind: may it have a second part, must it have a tag, the dictionaries of its heads and of its names, its way.
-#[derive(Drop)]
+#[derive(Clone, Copy)]
 pub struct Row {
     pub no_second: bool,
     pub needs_tag: bool,

@@ -15,9 +15,6 @@ cell_below s d d' l =
     let b : suc d * s ≡ d * s + s = suc-mul d s in
     omega arith
 
-pub cell-most : (s d d' : ℕ) → d ≤ d' → d * s ≤ d' * s
-cell-most s d d' l = mul-le-mul_right s l
-
 -- ---- dictionaries
 
 -- One dictionary's words end where the next one's start, or before.

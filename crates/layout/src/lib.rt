@@ -1,4 +1,6 @@
 // The sizes of a dictionary's memory with their limits, and where each field of `lists` lies.
+#![tactic(auto)]
+
 ghost use Rattle.std.specs.Prelude.{◌≡◌, ◌≤◌};
 ghost use Rattle.layout.specs.Sizes.{InRange, within, made, limit, kinds, dictionaries, pageSize, pageBytes, listBytes};
 ghost use Rattle.layout.specs.Fields.{dictAt, blocksAt};
@@ -43,7 +45,7 @@ pub const LENGTH: usize = 2147483648;
 pub const ENTRY_NUMBERS: usize = 2097152;
 
 // Document 01's letters: page width p, pages N, list length E, block width w, blocks B.
-#[derive(Drop)]
+#[derive(Clone, Copy)]
 pub struct Sizes {
     pub p: usize,
     pub n: usize,
@@ -52,7 +54,7 @@ pub struct Sizes {
     pub b: usize,
 }
 
-#[derive(Drop)]
+#[derive(Clone, Copy)]
 pub enum Made {
     Fit(Sizes),
     BadSize,

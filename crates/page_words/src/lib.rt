@@ -1,4 +1,6 @@
 // Writes the words of a page: how far it is used, and whose it is.
+#![tactic(auto)]
+
 ghost use Rattle.std.specs.Prelude.{◌≡◌, ◌+◌, ◌*◌, ◌≤◌, ◌<◌, length};
 ghost use Rattle.layout.specs.Sizes.{dictionaries};
 ghost use Rattle.layout.specs.Fields.{pageAt};

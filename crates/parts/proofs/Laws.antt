@@ -1,5 +1,5 @@
 -- How long a stored part is; storing and comparing one part after the other. Assumes nothing.
-use Prim.Native.Nat.{ℕ, suc, ◌+◌, ◌*◌, ◌≤◌}
+use Prim.Native.Nat.{ℕ, suc, ◌+◌, ◌*◌, ◌≤◌, ◌<◌}
 use mathlib.Core.Path.{◌≡◌, refl, ap}
 use mathlib.Core.Logic.{inl, inr, ◌≢◌}
 use mathlib.Core.Bool.{Bool, true, false, ◌&&◌}
@@ -7,13 +7,14 @@ use mathlib.Core.List.{[], ◌∷◌, ◌++◌}
 use native.Mathlib.Nat.{zero-add}
 use native.Mathlib.Omega.{arith}
 use lib.Dec.{eqb}
-use lib.ListN.{length, take, drop, set, length-take}
+use lib.ListN.{length, get_or, take, drop, set, length-take, length-append}
 use lib.Seq.{sets, sets-eq}
 use Rattle.slices.specs.Bytes.{Bytes, sameBytes}
 use Rattle.slices.proofs.Bytes.{bytes-true}
 use Rattle.slices.proofs.Tests.{Split, split}
-use Rattle.encoding.specs.Encoding.{formOf}
-use Rattle.encoding.proofs.Laws.{length-encoded, tag-bytes}
+use Rattle.encoding.specs.declared.Form.{Form}
+use Rattle.encoding.specs.Encoding.{formOf, encodedByte, encodedEnd, encoded}
+use Rattle.encoding.proofs.Laws.{length-encoded, tag-bytes, encoded-more, encoded-end}
 use Rattle.parts.specs.declared.Mode.{Mode}
 use Rattle.parts.specs.declared.Mode.TheVariants.{Raw, Tag}
 use Rattle.parts.specs.Parts.{bytes_of}
@@ -22,6 +23,14 @@ pub length-bytes : (m : Mode) (s : Bytes) → length (bytes_of m s) ≤ 2 * leng
 unfolding bytes_of
 length-bytes Raw s = omega arith
 length-bytes Tag s = rw (tag-bytes s) (omega (arith, length-encoded (formOf s) s))
+
+-- What is left at i is as long as what is stored there and what is left behind it.
+pub length-more : (form : Form) (i : ℕ) (s x : Bytes) → i < length s → x ≡ encodedByte form (get_or s i 0)
+    → length (encoded form (drop i s)) ≡ length x + length (encoded form (drop (i + 1) s))
+length-more form i s x l e = rw (encoded-more form i s x l e) (length-append x (encoded form (drop (i + 1) s)))
+
+pub length-end : (form : Form) (i : ℕ) (s x : Bytes) → length s ≤ i → x ≡ encodedEnd form → length (encoded form (drop i s)) ≡ length x
+length-end form i s x l e = ap length (encoded-end form i s x l e)
 
 -- ---- storing and comparing, one part after the other
 

@@ -1,4 +1,6 @@
 // A part of a name as it is stored: a slice with a mode. Only the loops of this crate know the modes.
+#![tactic(auto)]
+
 ghost use Rattle.std.specs.Prelude.{◌≡◌, ◌++◌, ◌+◌, ◌^◌, ◌≤◌, ◌<◌, length, drop};
 ghost use Rattle.std.proofs.lemmas.List.Edits.{sets};
 ghost use Rattle.fnv.specs.Fnv.{fnvFrom};
@@ -8,7 +10,7 @@ ghost use Rattle.parts.specs.Parts.{bytes_of};
 
 use encoding::Form;
 
-#[derive(Drop)]
+#[derive(Clone, Copy)]
 pub enum Mode {
     Raw,
     // A tag in the form in which it stands before its text.

@@ -1,8 +1,10 @@
 // Document 01's table of refusals, and two answers that several entries share. Only this crate numbers the refusals.
+#![tactic(auto)]
+
 ghost use Rattle.std.specs.Prelude.{◌≡◌};
 ghost use Rattle.refusals.specs.Numbers.{refusalNumber};
 
-#[derive(Drop)]
+#[derive(Clone, Copy)]
 pub enum Refusal {
     BadSize,
     ShortMemory,
@@ -20,14 +22,14 @@ pub enum Refusal {
 }
 
 // What a check answers: legal, or why not.
-#[derive(Drop)]
+#[derive(Clone, Copy)]
 pub enum Checked {
     Legal,
     Illegal(Refusal),
 }
 
 // The length written, or why nothing was written.
-#[derive(Drop)]
+#[derive(Clone, Copy)]
 pub enum Written {
     Length(usize),
     Refused(Refusal),

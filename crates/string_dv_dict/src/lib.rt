@@ -1,4 +1,6 @@
 // Tagged strings packed into one byte string (Nemo's string_dv_dict.rs). string_dv_dict_unpack has the way back.
+#![tactic(auto)]
+
 ghost use Rattle.std.specs.Prelude.{◌≡◌, ◌+◌, ◌≤◌, length};
 ghost use Rattle.std.proofs.lemmas.List.Edits.{sets};
 ghost use Rattle.string_dv_dict.specs.Packed.{pairRefusal};

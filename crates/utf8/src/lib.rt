@@ -1,4 +1,6 @@
 // Whether a run of bytes is UTF-8 by RFC 3629. Runs of characters are passed fast, the other characters one by one.
+#![tactic(auto)]
+
 ghost use Rattle.std.specs.Prelude.{◌≡◌, ◌+◌, ◌≤◌, length, take, drop};
 ghost use Rattle.utf8_char.specs.Text.{within, isText};
 ghost use Rattle.utf8.specs.Passing.{ascii, isTwo, isThree, Passed};

@@ -1,10 +1,12 @@
 // One character of UTF-8 by RFC 3629, byte by byte: no surrogates, nothing above U+10FFFF, shortest forms only.
+#![tactic(auto)]
+
 ghost use Rattle.std.specs.Prelude.{◌≡◌, ◌<◌, length};
 ghost use Rattle.utf8_char.specs.Text.{first_of, after};
 ghost use Rattle.utf8_char.specs.Ends.{Ends};
 
 // What the next byte must be, by the bytes read so far.
-#[derive(Drop)]
+#[derive(Clone, Copy)]
 pub enum Step {
     // How many tail bytes of a character are still due, and the least and the greatest value of the next one.
     Due(usize, u8, u8),
@@ -55,7 +57,7 @@ fn next(left: usize, lo: u8, hi: u8, b: u8) -> Step
 }
 
 // Where a character ends. Bad: the bytes are no character.
-#[derive(Drop)]
+#[derive(Clone, Copy)]
 pub enum End {
     At(usize),
     Bad,

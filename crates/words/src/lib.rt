@@ -1,5 +1,7 @@
 // Little-endian numbers in a slice of bytes. A word has eight bytes, a quad four. An index counts words or quads; `word_from` reads from any byte on.
 // Each read below compiles to one load, each write to one store.
+#![tactic(auto)]
+
 ghost use Rattle.std.specs.Prelude.{◌≡◌, ◌+◌, ◌*◌, ◌≤◌, ◌<◌, length};
 ghost use Rattle.words.specs.Words.{leAt, wordAt, setWord, quadAt, setQuad};
 

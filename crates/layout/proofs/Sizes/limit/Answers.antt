@@ -1,0 +1,8 @@
+-- The limit's number is the one that specs/ has.
+use Rattle.std.proofs.Common.{refl}
+use Rattle.layout.specs.Sizes.{nameLimit, limit}
+use Rattle.layout.proofs.Sizes.limit.Goals as goal
+
+pub returns : goal.returns
+unfolding nameLimit limit
+returns c = refl

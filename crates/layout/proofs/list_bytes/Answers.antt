@@ -1,0 +1,8 @@
+-- The sum is the one that specs/ has.
+use Rattle.std.proofs.Common.{refl}
+use Rattle.layout.specs.Sizes.{listBytes}
+use Rattle.layout.proofs.list_bytes.Goals as goal
+
+pub returns : goal.returns
+unfolding listBytes
+returns c = refl

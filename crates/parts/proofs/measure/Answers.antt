@@ -1,0 +1,27 @@
+-- The length of each mode's bytes. Assumes nothing.
+use Rattle.std.proofs.Common.{◌≡◌, ◌+◌, length, arith, rules}
+use Rattle.slices.specs.Bytes.{Bytes}
+use Rattle.encoding.specs.Encoding.{formOf, encoded}
+use Rattle.encoding.proofs.Laws.{tag-bytes}
+use Rattle.parts.specs.declared.Mode.TheVariants.{Tag}
+use Rattle.parts.specs.Parts.{bytes_of}
+use Rattle.parts.proofs.measure.Goals as goal
+
+length-tag : (s : Bytes) → length (bytes_of Tag s) ≡ 1 + length (encoded (formOf s) s)
+unfolding bytes_of
+length-tag s = rw (tag-bytes s) (omega arith)
+
+pub overflow_add-result : goal.overflow_add-result
+overflow_add-result c =
+    let e = rw c.form_of.ensures at c.measure_encoded.ensures in
+    let r = rw c.in-Tag.is at c.requires in
+    omega (arith, length-tag c.args.s.now)
+
+pub returns-in-Raw : goal.returns-in-Raw
+unfolding bytes_of
+returns-in-Raw c = search rules
+
+pub returns-in-Tag : goal.returns-in-Tag
+returns-in-Tag c =
+    let e = rw c.form_of.ensures at c.measure_encoded.ensures in
+    rw c.in-Tag.is (omega (arith, length-tag c.args.s.now))
