@@ -48,6 +48,13 @@ global-word s g h = (omega (arith, first-end s), omega (arith, first-end s))
 pub block-fits : (s : Sizes) (i n : ℕ) → listBytes s ≤ n → BlockWord s i → 8 * i + 8 ≤ n
 block-fits s i n f h = omega (arith, h.1, first-end s, blocks_end s, list-bytes s)
 
+-- The same at the place that code computes: the first word of a table, and an index.
+pub local-inside : (s : Sizes) (k l n at : ℕ) → listBytes s ≤ n → k < kinds → l < s.b → at ≡ blocksAt s k → 8 * (at + l) + 8 ≤ n
+local-inside s k l n at f h g e = rw e (block-fits s (local_at s k l) n f (local-word s k l h g))
+
+pub global-inside : (s : Sizes) (g n at : ℕ) → listBytes s ≤ n → g < s.b → at ≡ blocksAt s kinds → 8 * (at + g) + 8 ≤ n
+global-inside s g n at f h e = rw e (block-fits s (globalAt s g) n f (global-word s g h))
+
 local-apart : (s : Sizes) (j m k l : ℕ) → m < s.b → l < s.b → j ≢ k → local_at s j m ≢ local_at s k l
 local-apart s j m k l f h d e = go (split (ltb j k))
   where

@@ -1,5 +1,7 @@
 // The block rule (Nemo's meta_dv_dict.rs): which global block a kind's next local number is in, and the words that say so.
 // No number is converted here: the crate meta_dv_dict does that. The memory may be foreign, so every number read from it is tested.
+#![tactic(auto)]
+
 ghost use Rattle.std.specs.Prelude.{◌≡◌, ◌-◌, ◌/◌, ◌^◌, ◌≤◌, ◌<◌, length};
 ghost use Rattle.words.specs.Words.{wordAt};
 ghost use Rattle.layout.specs.Sizes.{InRange, kinds, listBytes};
@@ -11,7 +13,7 @@ ghost use Rattle.blocks.specs.Answers.{allocated, Allocates, heldBy, blockWritte
 use layout::{KINDS, OWNERS, Sizes};
 
 // A number within its kind.
-#[derive(Drop)]
+#[derive(Clone, Copy)]
 pub struct LocalId(pub usize);
 
 // How many numbers a block has.
@@ -24,7 +26,7 @@ pub fn block_size(s: Sizes) -> usize
 }
 
 // What the search for a block finds. Bad: the memory is no dictionary's.
-#[derive(Drop)]
+#[derive(Clone, Copy)]
 pub enum Allocated {
     Block(usize),
     NoBlock,
@@ -49,7 +51,7 @@ fn first_free(lists: &[u8], s: Sizes, from: usize) -> Allocated
 }
 
 // The global block that holds a local block. Bad: the memory is no dictionary's.
-#[derive(Drop)]
+#[derive(Clone, Copy)]
 pub enum Held {
     In(usize),
     Bad,

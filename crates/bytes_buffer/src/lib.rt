@@ -1,4 +1,6 @@
 // Pages (Nemo's bytes_buffer.rs): where the next entry goes. It only reads; a page's words and its own bytes are written elsewhere.
+#![tactic(auto)]
+
 ghost use Rattle.std.specs.Prelude.{◌≡◌, ◌+◌, ◌^◌, ◌≤◌, ◌<◌, length};
 ghost use Rattle.words.specs.Words.{wordAt};
 ghost use Rattle.layout.specs.Sizes.{InRange, dictionaries, pageSize, listBytes};
@@ -8,7 +10,7 @@ ghost use Rattle.bytes_buffer.specs.Spots.{lowestOf, next_of, spotIn, InPages, u
 use layout::{CURRENT, OFFSETS, OWNERS, PAGES, STRIDE, Sizes, UNTAKEN};
 
 // Where an entry goes: behind the used bytes of the current page, or to the front of the lowest untaken page.
-#[derive(Drop)]
+#[derive(Clone, Copy)]
 pub enum Spot {
     Current { page: usize, offset: usize },
     Next(usize),
@@ -17,7 +19,7 @@ pub enum Spot {
     Bad,
 }
 
-#[derive(Drop)]
+#[derive(Clone, Copy)]
 pub enum Lowest {
     Page(usize),
     Bad,

@@ -1,4 +1,6 @@
 // Inserts and reads a dictionary's entries (Nemo's bytes_dictionary.rs). The search is in bytes_index, the writes of one entry are in bytes_entry.
+#![tactic(auto)]
+
 ghost use Rattle.std.specs.Prelude.{◌≡◌, ◌+◌, ◌*◌, ◌≤◌, ◌<◌, length, take, drop};
 ghost use Rattle.words.specs.Words.{wordAt};
 ghost use Rattle.layout.specs.Sizes.{InRange, dictionaries, listBytes};
@@ -15,11 +17,11 @@ use bytes_key::Key;
 use layout::{COUNT, STRIDE, Sizes};
 
 // An entry's number in its dictionary.
-#[derive(Drop)]
+#[derive(Clone, Copy)]
 pub struct EntryId(pub usize);
 
 // How many entries a dictionary has. Bad: the memory is no dictionary's.
-#[derive(Drop)]
+#[derive(Clone, Copy)]
 pub enum Counted {
     Entries(usize),
     Bad,
@@ -38,7 +40,7 @@ pub fn count(lists: &[u8], s: Sizes, d: usize) -> Counted
 }
 
 // Where an entry's bytes go. Nothing: the plan found no spot.
-#[derive(Drop)]
+#[derive(Clone, Copy)]
 enum Room {
     At { page: usize, offset: usize },
     Nothing,
@@ -86,7 +88,7 @@ pub fn insert(
 }
 
 // Where an entry lies in the pages. Nothing: its number is not below the count. Bad: the memory is no dictionary's.
-#[derive(Drop)]
+#[derive(Clone, Copy)]
 pub enum Lookup {
     At { at: usize, len: usize },
     Nothing,

@@ -1,4 +1,6 @@
 // Writes an entry: its key's bytes into the page, and its words into the lists.
+#![tactic(auto)]
+
 ghost use Rattle.std.specs.Prelude.{◌≡◌, ◌+◌, ◌*◌, ◌≤◌, ◌<◌, length};
 ghost use Rattle.std.proofs.lemmas.List.Edits.{sets};
 ghost use Rattle.layout.specs.Sizes.{InRange, dictionaries, pageSize, listBytes};
@@ -31,7 +33,7 @@ fn write_key(pages: &mut [u8], at: usize, end: usize, key: Key, front: &[u8], re
 }
 
 // Where an entry lies: its page, its offset there, and its length.
-#[derive(Drop)]
+#[derive(Clone, Copy)]
 pub struct Extent {
     pub page: usize,
     pub offset: usize,
@@ -55,7 +57,7 @@ fn place_word(n: usize, h: u32) -> usize
 }
 
 // A fresh entry: its number in its dictionary, the index place that names it, and its stamp.
-#[derive(Drop)]
+#[derive(Clone, Copy)]
 pub struct NewEntry {
     pub n: usize,
     pub place: usize,

@@ -1,4 +1,6 @@
 // The index in which a dictionary's entries are searched. It replaces the HashMap of Nemo's bytes_dictionary.rs. The places of a search and the comparison of keys are in bytes_key.
+#![tactic(auto)]
+
 ghost use Rattle.std.specs.Prelude.{◌≤◌, ◌<◌, length};
 ghost use Rattle.words.specs.Words.{wordAt};
 ghost use Rattle.layout.specs.Sizes.{InRange, dictionaries, listBytes};
@@ -12,7 +14,7 @@ use bytes_key::Key;
 use layout::{ENTRY_NUMBERS, LENGTH, OFFSETS, PAGE_NUMBERS, Sizes};
 
 // A search ends at the entry of its key, or at an empty place. Bad: the memory is no dictionary's.
-#[derive(Drop)]
+#[derive(Clone, Copy)]
 pub enum Probe {
     At(usize),
     Free(usize),
@@ -20,7 +22,7 @@ pub enum Probe {
 }
 
 // Where an entry's bytes lie in the pages. Bad: the memory is no dictionary's.
-#[derive(Drop)]
+#[derive(Clone, Copy)]
 pub enum Span {
     At { at: usize, len: usize },
     Bad,

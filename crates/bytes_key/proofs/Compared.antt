@@ -1,25 +1,22 @@
 -- The comparison of a rest with the bytes before `end`: none agree, or all are compared at once. Assumes nothing.
-use mathlib.Core.Path.{◌≡◌, refl, sym, ap, ◌∙◌}
+use mathlib.Core.Path.{◌≡◌, sym, ap, ◌∙◌}
 use mathlib.Core.Bool.{true, false}
 use Prim.Native.Nat.{ℕ, ◌+◌, ◌-◌, ◌≤◌, ◌<◌}
 use native.Mathlib.Omega.{arith}
-use denote.Enum.Declared.{tag_of}
 use lib.ListN.{length, get_or, take, drop, length-take, length-drop}
 use lib.Seq.{ext_get_or, get_or-take, get_or-drop}
 use Rattle.slices.specs.Bytes.{Bytes, sameBytes}
 use Rattle.slices.proofs.Bytes.{bytes-true, bytes_same}
 use Rattle.slices.proofs.Tests.{clash}
 use Rattle.parts.specs.declared.Mode.{Mode}
-use Rattle.parts.specs.declared.Mode.TheVariants.{Raw, Tag}
+use Rattle.parts.specs.declared.Mode.TheVariants.{Raw}
 use Rattle.parts.specs.Parts.{bytes_of}
-use Rattle.parts.specs.contracts.Mode.{the_type}
 use Rattle.bytes_key.specs.Keys.{Agree, Agreeing}
 
 -- A raw part is its own stored bytes.
-pub raw : (mode : Mode) (s : Bytes) → tag_of the_type mode ≡ 0 → bytes_of mode s ≡ s
+pub raw : (mode : Mode) (s : Bytes) → mode ≡ Raw → bytes_of mode s ≡ s
 unfolding bytes_of
-raw Raw s e = refl
-raw Tag s e = absurd (omega arith)
+raw mode s e = rw e
 
 pub no_more : (pages : Bytes) (end : ℕ) (rest : Bytes) (left : ℕ) → (Agree pages end rest 0 (length rest) → ⊥) → Agreeing pages end rest left 0
 no_more pages end rest left h = record { within = omega arith; same = λ k l u. absurd (omega arith); differ = λ z. h }

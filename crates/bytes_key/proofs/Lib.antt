@@ -1,4 +1,3 @@
 -- Laws that belong to no one function.
 pub mod Fronts
 pub mod Compared
-pub mod Wraps

@@ -1,4 +1,6 @@
 // A key: its bytes in two parts, how many they are, the places of its search, and its comparison with stored bytes.
+#![tactic(auto)]
+
 ghost use Rattle.std.specs.Prelude.{◌≡◌, ◌+◌, ◌%◌, ◌^◌, ◌≤◌, ◌<◌, length};
 ghost use Rattle.parts.specs.Parts.{bytes_of};
 ghost use Rattle.layout.specs.Fields.{top_of};
@@ -9,7 +11,7 @@ use parts::Mode;
 
 // A key to search or to store, without its bytes: its dictionary, its hash, and the modes of its front and of its rest. The caller computes the hash, because
 // it knows which parts the key has.
-#[derive(Drop)]
+#[derive(Clone, Copy)]
 pub struct Key {
     pub d: usize,
     pub h: u32,

@@ -1,5 +1,7 @@
 // How local and global numbers are converted (Nemo's meta_dv_dict.rs). Only this file converts one into the other; which block a local number is in stands in
 // the crate blocks. The memory may be foreign, so every number read from it is tested.
+#![tactic(auto)]
+
 ghost use Rattle.std.specs.Prelude.{◌≡◌, ◌+◌, ◌*◌, ◌%◌, ◌^◌, ◌≤◌, ◌<◌, length};
 ghost use Rattle.layout.specs.Sizes.{InRange, kinds, listBytes};
 ghost use Rattle.meta_dv_dict.specs.Answers.{Globals, Locals};
@@ -8,7 +10,7 @@ use blocks::{Held, LocalId};
 use layout::{KINDS, OWNERS, Sizes};
 
 // A number across the kinds.
-#[derive(Drop)]
+#[derive(Clone, Copy)]
 pub struct GlobalId(pub usize);
 
 // The global number of a local number that is in the block g.
@@ -24,7 +26,7 @@ pub fn number_in(s: Sizes, g: usize, local: LocalId) -> GlobalId
 }
 
 // A global number. Bad: the memory is no dictionary's.
-#[derive(Drop)]
+#[derive(Clone, Copy)]
 pub enum Number {
     Global(GlobalId),
     Bad,
@@ -47,7 +49,7 @@ pub fn local_to_global(lists: &[u8], s: Sizes, k: usize, local: LocalId) -> Numb
 }
 
 // What the block of a global number says of it. Bad: the memory is no dictionary's.
-#[derive(Drop)]
+#[derive(Clone, Copy)]
 pub enum Owner {
     Local(usize, LocalId),
     Free,

@@ -1,0 +1,9 @@
+-- The rest is written behind the front.
+use Rattle.parts.specs.Parts.{bytes_of}
+use Rattle.bytes_entry.proofs.Keys.{put-tail}
+use Rattle.bytes_entry.proofs.write_tail.Goals as goal
+
+pub returns : goal.returns
+returns c =
+    let a = c.args in
+    rw c.write-2.ensures (put-tail a.tail.now _ (bytes_of a.key.front a.front.now) (bytes_of a.key.rest a.rest.now) _ c.write.ensures c.measure-m.ensures c.requires)

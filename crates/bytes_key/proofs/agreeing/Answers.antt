@@ -1,0 +1,64 @@
+-- Two words are equal exactly where their eight bytes are. Assumes nothing.
+use Rattle.std.proofs.Common.{◌≡◌, ℕ, ◌+◌, ◌-◌, ◌<◌, ◌≤◌, length, get_or, sym, ◌∙◌, arith}
+use Rattle.slices.specs.Bytes.{Bytes}
+use Rattle.words.specs.Words.{leAt}
+use Rattle.words.proofs.Laws.{le-agree, le_same}
+use Rattle.parts.specs.Parts.{bytes_of}
+use Rattle.bytes_key.specs.Keys.{Agree, Agreeing}
+use Rattle.bytes_key.proofs.Compared.{no_more, at-once-not, at_once}
+use Rattle.bytes_key.proofs.agreeing.Goals as goal
+use Rattle.bytes_key.proofs.agreeing.Goals.{then-left-lt8, else-left-lt8}
+
+-- The eight bytes that begin where `from` are left.
+module _ (pages : Bytes) (end : ℕ) (rest : Bytes) (from : ℕ) (eight : 8 ≤ from) (inside : from ≤ length rest) (fits : length rest ≤ end) where
+  bytes_word : Agree pages end rest 0 (length rest) → leAt 8 pages (end - from) ≡ leAt 8 rest (length rest - from)
+  bytes_word h =
+      le-agree 8 pages rest (end - from) (length rest - from)
+      (λ i l.
+      let p : end - from + i ≡ end - (from - i) = omega arith in
+      let q : length rest - from + i ≡ length rest - (from - i) = omega arith in
+      rw (p, q) (h (from - i) (omega arith) (omega arith)))
+
+  word_bytes : ((k : ℕ) → get_or pages k 0 < 256) → ((k : ℕ) → get_or rest k 0 < 256) → leAt 8 pages (end - from) ≡ leAt 8 rest (length rest - from)
+      → Agree pages end rest (from - 8) from
+  word_bytes b d e k l u =
+      let p : end - from + (from - k) ≡ end - k = omega arith in
+      let q : length rest - from + (from - k) ≡ length rest - k = omega arith in
+      let w = le_same 8 pages rest (end - from) (length rest - from) b d e (from - k) (omega arith) in
+      cc
+
+  -- r of them were not compared before.
+  agreed : (left r : ℕ) → Agree pages end rest (from - 8) from → 0 < r → r ≤ left → from - 8 ≤ left - r → left ≤ from → Agreeing pages end rest left r
+  agreed left r h p q a b = record { within = q; same = λ k l u. h k (omega arith) (omega arith); differ = λ e. absurd (omega arith) }
+
+pub returns-then-not-same : goal.returns-then-not-same
+unfolding bytes_of
+returns-then-not-same c =
+    at-once-not c.args.pages.now c.args.end c.args.rest.now (omega arith) (omega arith) c.args.left (sym c.if-not-same.ensures)
+
+pub returns-then-n-lt8 : goal.returns-then-n-lt8
+unfolding bytes_of
+returns-then-n-lt8 c =
+    at_once c.args.pages.now c.args.end c.args.rest.now (omega arith) (omega arith) c.args.left (omega arith) (omega arith) (sym c.if-not-same.ensures)
+
+pub returns-then-word_from : goal.returns-then-word_from
+returns-then-word_from c =
+    let from = c.if-left-lt8.from in
+    let a : 8 ≤ from = elim c.if-left-lt8.branch [ then-left-lt8 w ↦ omega arith | else-left-lt8 w ↦ omega arith ] in
+    let b : from ≤ length c.args.rest.now = elim c.if-left-lt8.branch [ then-left-lt8 w ↦ omega arith | else-left-lt8 w ↦ omega arith ] in
+    no_more c.args.pages.now c.args.end c.args.rest.now c.args.left
+    (λ h. c.if-word_from.true (c.word_from.ensures ∙ bytes_word c.args.pages.now c.args.end c.args.rest.now from a b (omega arith) h ∙ sym c.word_from-2.ensures))
+
+pub returns-then-left-lt8-2 : goal.returns-then-left-lt8-2
+returns-then-left-lt8-2 c =
+    let from = c.if-left-lt8.from in
+    let e : from ≡ 8 = elim c.if-left-lt8.branch [ then-left-lt8 w ↦ omega arith | else-left-lt8 w ↦ omega arith ] in
+    let h = word_bytes c.args.pages.now c.args.end c.args.rest.now from (omega arith) (omega arith) (omega arith) (λ k. omega (arith, c.type_inv.pages k)) (λ k. omega (arith, c.type_inv.rest k)) (sym c.word_from.ensures ∙ c.if-word_from.false ∙ c.word_from-2.ensures) in
+    agreed c.args.pages.now c.args.end c.args.rest.now from (omega arith) (omega arith) (omega arith) c.args.left c.args.left h (omega arith) (omega arith) (omega arith) (omega arith)
+
+pub returns-else-left-lt8-2 : goal.returns-else-left-lt8-2
+returns-else-left-lt8-2 c =
+    let from = c.if-left-lt8.from in
+    let e : from ≡ c.args.left = elim c.if-left-lt8.branch [ then-left-lt8 w ↦ omega arith | else-left-lt8 w ↦ omega arith ] in
+    let h = word_bytes c.args.pages.now c.args.end c.args.rest.now from (omega arith) (omega arith) (omega arith) (λ k. omega (arith, c.type_inv.pages k)) (λ k. omega (arith, c.type_inv.rest k)) (sym c.word_from.ensures ∙ c.if-word_from.false ∙ c.word_from-2.ensures) in
+    agreed c.args.pages.now c.args.end c.args.rest.now from (omega arith) (omega arith) (omega arith) c.args.left 8 h (omega arith) (omega arith) (omega arith) (omega arith)
