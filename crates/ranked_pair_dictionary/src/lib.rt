@@ -1,10 +1,12 @@
 // The frequent id (Nemo's ranked_pair_dictionary.rs): the number of a head, written in one to four bytes in front of the rest.
+#![tactic(auto)]
+
 ghost use Rattle.std.specs.Prelude.{◌≡◌, ◌++◌, ◌^◌, ◌≤◌, ◌<◌, length, drop};
 ghost use Rattle.ranked_pair_dictionary.specs.FrequentId.{furtherBytes, fid, leadBytes, writeFidAnswer, writeFidBuffer, readFidAnswer};
 
 use refusals::{Refusal, Written};
 
-#[derive(Drop)]
+#[derive(Clone, Copy)]
 pub enum FrequentId {
     Value { value: usize, length: usize },
     Refused(Refusal),
@@ -58,7 +60,7 @@ pub fn write_frequent_id(value: usize, buffer: &mut [u8]) -> Written
 }
 
 // A frequent id by value: the first `len` of four bytes.
-#[derive(Drop)]
+#[derive(Clone, Copy)]
 pub struct Lead {
     pub bytes: [u8; 4],
     pub len: usize,

@@ -1,10 +1,12 @@
 // The split of an IRI (Nemo's ranked_pair_iri_dv_dict.rs) into a head that many IRIs share and the rest.
+#![tactic(auto)]
+
 ghost use Rattle.std.specs.Prelude.{◌≡◌, true, ◌+◌, ◌≤◌, length};
 ghost use Rattle.ranked_pair_iri_dv_dict.specs.Split.{isMark, Unmarked, head_of};
 
 use words::TOP_BITS;
 
-#[derive(Drop)]
+#[derive(Clone, Copy)]
 pub enum Head {
     Length(usize),
     Nothing,

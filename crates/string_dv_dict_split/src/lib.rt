@@ -1,4 +1,6 @@
 // Where the text and the tag lie in a packed tagged string, and whether packing makes such a form (from the second half of Nemo's string_dv_dict.rs).
+#![tactic(auto)]
+
 ghost use Rattle.std.specs.Prelude.{◌≡◌, ◌+◌, ◌^◌, ◌<◌, length};
 ghost use Rattle.string_dv_dict_split.specs.Forms.{before};
 ghost use Rattle.string_dv_dict_split.specs.Scans.{scanStep, scanFrom, scanned, longSplit, splitOf, formOf, ShortForm, LongForm};
@@ -8,7 +10,7 @@ use layout::Sizes;
 use refusals::Checked;
 
 // The bytes of an escaped tag so far: how many bytes of the tag they stand for. Escape: a '\' still needs its second byte. Bad: packing never writes them.
-#[derive(Drop)]
+#[derive(Clone, Copy)]
 enum Scan {
     Whole(usize),
     Escape(usize),
@@ -16,7 +18,7 @@ enum Scan {
 }
 
 // Where the parts of a packed form lie. Short: the tag's length. Long: the length of the escaped tag, then that of the tag itself.
-#[derive(Drop)]
+#[derive(Clone, Copy)]
 pub enum Form {
     Short(usize),
     Long(usize, usize),

@@ -1,4 +1,6 @@
 // Packed tagged strings unpacked again: the parts that `string_dv_dict_split` finds are written (the second half of Nemo's string_dv_dict.rs).
+#![tactic(auto)]
+
 ghost use Rattle.std.specs.Prelude.{◌≡◌, true, false, ◌+◌, ◌≤◌, length};
 ghost use Rattle.std.proofs.lemmas.List.Edits.{sets};
 ghost use Rattle.layout.specs.Sizes.{packedLimit};
@@ -12,7 +14,7 @@ use refusals::Refusal;
 use string_dv_dict_split::Form;
 
 // Both lengths, or why nothing was written.
-#[derive(Drop)]
+#[derive(Clone, Copy)]
 pub enum Unpacked {
     Lengths { text: usize, tag: usize },
     Refused(Refusal),
