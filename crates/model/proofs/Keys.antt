@@ -1,6 +1,6 @@
 -- Looking a name up in the dictionaries of a good part finds its local number; stored keys stay. Assumes nothing.
 use Prim.Native.Nat.{ℕ, suc, ◌<◌, ◌≤◌}
-use mathlib.Core.Path.{◌≡◌, refl, sym, ap, ◌∙◌}
+use mathlib.Core.Path.{◌≡◌, refl, sym, ap, subst, ◌∙◌}
 use mathlib.Core.Logic.{inl, inr}
 use mathlib.Core.Bool.{true, false, false≢true}
 use mathlib.Core.List.{List, [], ◌∷◌, ◌++◌}
@@ -150,9 +150,14 @@ pub keys-after : (s : Sizes) (a : Name) (t n : ℕ) (pt : Part) → GoodPart s a
 keys-after s a t n pt G = go (split (newHead a pt))
   where
     go : Split (newHead a pt) → keys_of (partAfter a pt t).heads (partAfter a pt t).names ≡ keyOf pt.heads a ∷ keys_of pt.heads pt.names
-    go (inr p) = rw p
+    go (inr p) =
+        let heads : (partAfter a pt t).heads ≡ pt.heads = rw p in
+        subst (λ (hs : List Bytes). keys_of hs (partAfter a pt t).names ≡ keyOf pt.heads a ∷ keys_of pt.heads pt.names) (sym heads) refl
     go (inl p) =
         let pair : (row a.kind).paired ≡ true = and_left (row a.kind).paired _ p in
         let e : entryNumber (nameHead a) pt.heads ≡ none = is-none _ (and_right (row a.kind).paired _ p) in
         let k : keyOf (nameHead a ∷ pt.heads) a ≡ keyOf pt.heads a = rw (bytes_same (nameHead a), e) in
-        rw (p, k, keys-stay (nameHead a) pt.heads pt.names e (G.covered pair))
+        let heads : (partAfter a pt t).heads ≡ nameHead a ∷ pt.heads = rw p in
+        let rest : keys_of (nameHead a ∷ pt.heads) pt.names ≡ keys_of pt.heads pt.names = keys-stay (nameHead a) pt.heads pt.names e (G.covered pair) in
+        let both : keyOf (nameHead a ∷ pt.heads) a ∷ keys_of (nameHead a ∷ pt.heads) pt.names ≡ keyOf pt.heads a ∷ keys_of pt.heads pt.names = rw (k, rest) in
+        subst (λ (hs : List Bytes). keys_of hs (partAfter a pt t).names ≡ keyOf pt.heads a ∷ keys_of pt.heads pt.names) (sym heads) both

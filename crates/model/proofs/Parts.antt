@@ -1,6 +1,6 @@
 -- A kind's part with one more name is good; the stamps. Assumes nothing.
 use Prim.Native.Nat.{ℕ, zero, suc, ◌<◌, ◌≤◌}
-use mathlib.Core.Path.{◌≡◌, refl, ap}
+use mathlib.Core.Path.{◌≡◌, refl, ap, sym, subst}
 use mathlib.Core.Logic.{inl, inr}
 use mathlib.Core.Bool.{true, false, ◌&&◌}
 use mathlib.Core.List.{List, [], ◌∷◌}
@@ -80,21 +80,22 @@ module _ (s : Sizes) (a : Name) (t n : ℕ) (pt : Part) (G : GoodPart s a.kind t
           let no-head : entryNumber (nameHead a) pt.heads ≡ none = is-none _ (and_right (row a.kind).paired _ p) in
           let full : (newHead a pt && leb s.e (length pt.heads)) ≡ false = or_right (leb s.e (length pt.names)) _ roomy in
           let few-heads : length pt.heads < s.e = leb-false s.e (length pt.heads) (rw p at full) in
+          let heads : (partAfter a pt t).heads ≡ nameHead a ∷ pt.heads = rw p in
           record {
             names = Names;
             numbered = ap suc G.numbered;
             fewNames = few;
             different = rw p (no-head, G.different);
             fewHeads = rw p few-heads;
-            covered = λ e. rw p ((length pt.heads, rw (bytes_same (nameHead a))), covered_more (nameHead a) pt.heads pt.names (G.covered e));
+            covered = λ e. subst (λ (hs : List Bytes). Covered hs (partAfter a pt t).names) (sym heads) ((length pt.heads, rw (bytes_same (nameHead a))), covered_more (nameHead a) pt.heads pt.names (G.covered e));
             headless = λ e. clash pair e;
           }
-      go (inr p) = record {
+      go (inr p) = let heads : (partAfter a pt t).heads ≡ pt.heads = rw p in record {
         names = Names;
         numbered = ap suc G.numbered;
         fewNames = few;
         different = rw p G.different;
         fewHeads = rw p G.fewHeads;
-        covered = λ e. rw p (is_some (entryNumber (nameHead a) pt.heads) (rw e at p), G.covered e);
+        covered = λ e. subst (λ (hs : List Bytes). Covered hs (partAfter a pt t).names) (sym heads) (is_some (entryNumber (nameHead a) pt.heads) (rw e at p), G.covered e);
         headless = λ e. rw p (G.headless e);
       }

@@ -140,8 +140,8 @@ module _ (o : Before) (L : LookedUp o) (es fs : List Event) (D : Demand3 o es) (
           let v = E.read_name ys n x z q i.0 d (rw h at i.1) (long i.0 i.1) in
           (u.0 ∙ sym v.0, u.1 ∙ sym v.1)
       go (inr never) =
-          let u = D.Read-none xs n x y r c never in
-          let v = E.Read-none ys n x z q d (rw h at never) in
+          let u = D.read_none xs n x y r c never in
+          let v = E.read_none ys n x z q d (rw h at never) in
           (u.0 ∙ sym v.0, u.1 ∙ sym v.1)
 
   pub counts_same : (k : ℕ) (r q : CountAnswer) → At (count k r) xs es → At (count k q) ys fs → k < kinds → r ≡ q

@@ -1,6 +1,6 @@
 -- The local numbers of a kind's fresh names run from 0 to the count less one. Assumes nothing.
 use Prim.Native.Nat.{ℕ, suc, ◌<◌, ◌≤◌}
-use mathlib.Core.Path.{◌≡◌, refl, sym, ap, ◌∙◌}
+use mathlib.Core.Path.{◌≡◌, refl, sym, ap, ◌∙◌, subst}
 use mathlib.Core.Logic.{inl, inr}
 use mathlib.Core.List.{List, [], ◌∷◌}
 use native.Mathlib.Omega.{arith}
@@ -47,9 +47,12 @@ each_local k l (fresh b m ∷ es) h = go (split (eqb k b.kind)) (split (eqb l (f
 each_local k l (known b m ∷ es) h = each_local k l es h
 each_local k l (no-effect ∷ es) h = each_local k l es h
 
+one-less : (l n : ℕ) → suc l ≡ n → l < n
+one-less l n e = omega (arith, e)
+
 pub below-count : (a : Name) (l n : ℕ) (es : List Effect) → Numbered a l n es → l < fresh_of a.kind es
 below-count a l n [] x = absurd x
-below-count a l n (fresh b m ∷ es) (inl x) = rw x.0 (omega (arith, x.2))
+below-count a l n (fresh b m ∷ es) (inl x) = subst (λ (c : Name). l < fresh_of c.kind (fresh b m ∷ es)) (sym x.0) (one-less l _ x.2)
 below-count a l n (fresh b m ∷ es) (inr x) = omega (arith, below-count a l n es x, fresh-more a.kind b m es)
 below-count a l n (known b m ∷ es) x = below-count a l n es x
 below-count a l n (no-effect ∷ es) x = below-count a l n es x

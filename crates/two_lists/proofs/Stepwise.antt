@@ -1,6 +1,6 @@
 -- What demand 3 says of the effects of a list from a freshly opened dictionary, effect by effect: a name has one number, and a number one name. Assumes nothing.
 use Prim.Native.Nat.{ℕ}
-use mathlib.Core.Path.{◌≡◌, refl, sym, ◌∙◌}
+use mathlib.Core.Path.{◌≡◌, refl, sym, ◌∙◌, subst}
 use mathlib.Core.Logic.{◌≢◌, ◌⊎◌, inl, inr}
 use mathlib.Core.Bool.{true}
 use mathlib.Core.List.{List, [], ◌∷◌}
@@ -94,7 +94,8 @@ module _ (s : Sizes) where
   given-issued a n [] S g = g
   given-issued a n (fresh b m ∷ es) S (inl e) = inl e
   given-issued a n (fresh b m ∷ es) S (inr g) = inr (given-issued a n es S.2 g)
-  given-issued a n (known b m ∷ es) S (inl e) = rw (e.0, e.1) (given-issued b m es S.1 S.0)
+  given-issued a n (known b m ∷ es) S (inl e) =
+      subst (λ (x : Name). Issued (nothing s) x n es) (sym e.0) (subst (λ (k : ℕ). Issued (nothing s) b k es) (sym e.1) (given-issued b m es S.1 S.0))
   given-issued a n (known b m ∷ es) S (inr g) = given-issued a n es S.1 g
   given-issued a n (no-effect ∷ es) S g = given-issued a n es S g
 
