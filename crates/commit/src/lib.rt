@@ -1,4 +1,6 @@
 // The answers of an add, the number of a name that is stored, and the writes of a plan. The memory may hold any bytes.
+#![tactic(auto)]
+
 ghost use Rattle.std.specs.Prelude.{◌≡◌, false, ◌+◌, ◌*◌, ◌%◌, ◌^◌, ◌≤◌, ◌<◌, length};
 ghost use Rattle.fnv.specs.Fnv.{fnvOf};
 ghost use Rattle.layout.specs.Sizes.{InRange, kinds, listBytes};
@@ -21,7 +23,7 @@ use parts::Mode;
 use plan::Plan;
 use refusals::Refusal;
 
-#[derive(Drop)]
+#[derive(Clone, Copy)]
 pub enum AddResult {
     Fresh(GlobalId),
     Known(GlobalId),
@@ -42,7 +44,7 @@ pub fn known(lists: &[u8], s: Sizes, k: usize, local: LocalId) -> AddResult
 
 // A name to enter: its kind, its key, and the empty place of the key. `newhead`: the head is not stored, so it is entered too, as the head number f at its own
 // empty place. Without a new head, f and its place are 0.
-#[derive(Drop)]
+#[derive(Clone, Copy)]
 pub struct NewName {
     pub k: usize,
     pub key: Key,

@@ -1,12 +1,11 @@
 -- What an add promises for a name, from where its search ended. Assumes nothing.
-use Prim.Native.Nat.{ℕ, ◌+◌}
+use Prim.Native.Nat.{ℕ}
 use mathlib.Core.Path.{◌≡◌, refl, sym, ap, subst, ◌∙◌}
-use mathlib.Core.Logic.{◌⊎◌, inl, inr}
+use mathlib.Core.Logic.{inl}
 use mathlib.Core.Bool.{true, false, false≢true}
 use mathlib.Core.List.{[], ◌++◌}
 use mathlib.Core.Option.{none}
 use native.Mathlib.Omega.{arith}
-use denote.Enum.Declared.{tag_of}
 use lib.ListN.{length}
 use Rattle.slices.specs.Bytes.{Bytes}
 use Rattle.words.specs.Words.{wordAt}
@@ -20,7 +19,6 @@ use Rattle.bytes_key.specs.declared.Key.{Key}
 use Rattle.bytes_index.specs.declared.Probe.{Probe}
 use Rattle.bytes_index.specs.declared.Probe.TheVariants as P
 use Rattle.bytes_index.specs.Search.{Searched}
-use Rattle.bytes_index.specs.contracts.Probe.{the_type}
 use Rattle.bytes_dictionary.specs.declared.Counted.{Counted}
 use Rattle.bytes_dictionary.specs.declared.Counted.TheVariants as C
 use Rattle.bytes_dictionary.specs.Reading.{countIn}
@@ -113,14 +111,13 @@ module _ (s : Sizes) (pages lists : Bytes) (a : Name) (L : Lent s pages lists ki
       key-is S legal = key-new S a legal (own_new S a legal x hplace H) ∙ ap (λ (n : ℕ). fid n ++ (row a.kind).rest a) (heads-are S)
 
       -- A pair with the number that the head is about to get is never there.
-      pub occupied : (r : Probe) → (tag_of the_type r ≡ 0) ⊎ (tag_of the_type r ≡ 2) → Searched s (row a.kind).mainAt pages lists (fid f ++ (row a.kind).rest a) r
+      pub occupied : (r : Probe) → ((j : ℕ) → r ≡ P.Free j → ⊥) → Searched s (row a.kind).mainAt pages lists (fid f ++ (row a.kind).rest a) r
           → AddsName s a pages lists (AddAnswer.refused Unopened) pages lists
       occupied (P.At i) t q =
           never s pages lists a
           (λ st S legal.
           head-missing S a legal (own_new S a legal x hplace H) i (subst (λ (y : Bytes). Searched s (row a.kind).mainAt pages lists y (P.At i)) (sym (key-is S legal)) q))
-      occupied (P.Free j) (inl t) q = absurd (omega arith)
-      occupied (P.Free j) (inr t) q = absurd (omega arith)
+      occupied (P.Free j) t q = absurd (t j refl)
       occupied P.Bad t q = never s pages lists a (λ st S legal. main-bad s st pages lists S a.kind L.known _ q)
 
       pub adds-pair : (place : ℕ) (key_of : Key) (hhash : ℕ) (head key : Bytes) → (row a.kind).head a ≡ head → fid f ++ (row a.kind).rest a ≡ key

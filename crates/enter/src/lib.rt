@@ -1,4 +1,6 @@
 // An add of a name that is legal and not stored: a plan, and then all writes. The memory may hold any bytes.
+#![tactic(auto)]
+
 ghost use Rattle.std.specs.Prelude.{◌≡◌, ◌*◌, ◌≤◌, ◌<◌, length};
 ghost use Rattle.std.proofs.Math.Option.{none};
 ghost use Rattle.fnv.specs.Fnv.{fnvOf};

@@ -10,7 +10,6 @@ use lib.Dec.{leb}
 use lib.ListN.{length, take, drop, length-append, take-append-drop}
 use lib.Seq.{drop_at}
 use borrow.Author.Tests.{leb-true}
-use denote.Enum.Declared.{tag_of}
 use Rattle.slices.specs.Bytes.{Bytes}
 use Rattle.slices.proofs.Tests.{Split, split}
 use Rattle.refusals.specs.declared.Refusal.{Refusal}
@@ -23,7 +22,6 @@ use Rattle.layout.specs.Sizes.{kinds, pageBytes}
 use Rattle.bytes_dictionary.specs.declared.Lookup.{Lookup}
 use Rattle.bytes_dictionary.specs.declared.Lookup.TheVariants as K
 use Rattle.bytes_dictionary.specs.Reading.{Gives, Looked}
-use Rattle.bytes_dictionary.specs.contracts.Lookup.{the_type}
 use Rattle.model.specs.Names.{Name}
 use Rattle.model.specs.Kinds.{Way, splits, whole, packs, pairs, hasHeads, headBy, restBy, row}
 use Rattle.model.specs.State.{State, entryNumber}
@@ -81,9 +79,8 @@ module _ (s : Sizes) (a : Name) (passes : checks s a ≡ none) where
   joined pairs v pair m (inr h) = rw h.1 (refl, omega arith, omega arith)
 
 -- A lookup that names no part gives no key.
-no_part : (pages key : Bytes) (r : Lookup) → (tag_of the_type r ≡ 1) ⊎ (tag_of the_type r ≡ 2) → Gives pages (some key) r → ⊥
-no_part pages key (K.At at len) (inl p) g = omega arith
-no_part pages key (K.At at len) (inr p) g = omega arith
+no_part : (pages key : Bytes) (r : Lookup) → ((at len : ℕ) → r ≡ K.At at len → ⊥) → Gives pages (some key) r → ⊥
+no_part pages key (K.At at len) p g = p at len refl
 no_part pages key K.Nothing p g = g
 no_part pages key K.Bad p g = g
 
@@ -134,7 +131,7 @@ module _ (s : Sizes) (pages lists : Bytes) (k at len : ℕ) (known : k < kinds) 
       }
 
   module _ (v n : ℕ) (e : readFidAnswer (take len (drop at pages)) ≡ Value v n) where
-    pub bad-head : (r : Lookup) → (tag_of the_type r ≡ 1) ⊎ (tag_of the_type r ≡ 2) → Looked s (row k).headsAt v lists r
+    pub bad-head : (r : Lookup) → ((at len : ℕ) → r ≡ K.At at len → ⊥) → Looked s (row k).headsAt v lists r
         → LocatesEntry s pages lists k at len Bad
     bad-head r t look =
         record { range = tt; right = λ st a S p q old h. no_part pages ((row k).head a) r t (head-given st a S (begins st a S q old h) v n e r look) }

@@ -1,4 +1,6 @@
 // Where the name of a number lies in the pages, and its copy into a buffer. The memory may hold any bytes: every number read from it is tested.
+#![tactic(auto)]
+
 ghost use Rattle.std.specs.Prelude.{◌≡◌, true, ◌++◌, ◌+◌, ◌≤◌, ◌<◌, length, drop};
 ghost use Rattle.std.proofs.lemmas.List.Edits.{sets};
 ghost use Rattle.slices.specs.Bytes.{Bytes};
@@ -16,7 +18,7 @@ use string_dv_dict_split::Form;
 
 // A name in the pages: its kind, the lengths of its parts, and two pieces whose bytes are the first part, then the second. An IRI and a typed value have head
 // and rest as pieces, a plain string has itself and nothing, a tagged string has text and tag. A long tag is escaped.
-#[derive(Drop)]
+#[derive(Clone, Copy)]
 pub struct Pieces {
     pub kind: usize,
     pub first: usize,
@@ -29,7 +31,7 @@ pub struct Pieces {
 }
 
 // Nothing: no name has the number. Bad: the memory is no dictionary's.
-#[derive(Drop)]
+#[derive(Clone, Copy)]
 pub enum Located {
     At(Pieces),
     Nothing,

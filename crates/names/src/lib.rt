@@ -1,4 +1,6 @@
 // A name's arguments: the check of refusals 4 to 7 in its two halves, where head and rest lie, and the entry of a local number.
+#![tactic(auto)]
+
 ghost use Rattle.std.specs.Prelude.{◌≡◌, true, ◌&&◌, [], ◌≤◌, length};
 ghost use Rattle.utf8.specs.Text.{isText};
 ghost use Rattle.refusals.specs.Checked.{checkedBy};

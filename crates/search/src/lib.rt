@@ -1,4 +1,6 @@
 // The search for a name: its head, where its kind has heads, then its key in the kind's main dictionary. The memory may hold any bytes.
+#![tactic(auto)]
+
 ghost use Rattle.std.specs.Prelude.{◌≡◌, true, false, [], ◌++◌, ◌≤◌, ◌<◌, length};
 ghost use Rattle.std.proofs.Math.Option.{none};
 ghost use Rattle.fnv.specs.Fnv.{fnvOf, bitsFrom};
@@ -23,14 +25,14 @@ use parts::Mode;
 use ranked_pair_dictionary::Lead;
 
 // The empty place at which a search ended: that of the name's key, or that of its head, which is not stored.
-#[derive(Drop)]
+#[derive(Clone, Copy)]
 pub enum Place {
     Key(usize),
     Head(usize),
 }
 
 // A name's local number, or the place of a name that is not stored. Bad: the memory is no dictionary's.
-#[derive(Drop)]
+#[derive(Clone, Copy)]
 pub enum Search {
     Found(LocalId),
     Missing(Place),
@@ -39,7 +41,7 @@ pub enum Search {
 
 // What the search says of a name, and all that an add of it needs: the lead in front of its rest, if its head is stored; the hashes of its key and of its head.
 // `ascii`: the search has seen every byte of the name, and all are ASCII.
-#[derive(Drop)]
+#[derive(Clone, Copy)]
 pub struct Sought {
     pub found: Search,
     pub ascii: bool,

@@ -1,0 +1,84 @@
+-- A string's key is its tag, as it is stored, and then its text. Assumes nothing.
+use Rattle.std.proofs.Common.{◌≡◌, ◌<◌, ℕ, true, false, [], ◌∷◌, length, sym, ap, subst, ◌∙◌, ltb-true, arith}
+use Rattle.std.proofs.Math.Option.{none}
+use mathlib.Core.Bool.{false≢true}
+use Rattle.slices.specs.Bytes.{Bytes}
+use Rattle.fnv.specs.Fnv.{fnvFrom, fnvOf}
+use Rattle.parts.specs.declared.Mode.{Mode}
+use Rattle.parts.specs.declared.Mode.TheVariants.{Raw}
+use Rattle.parts.specs.Parts.{bytes_of}
+use Rattle.utf8.specs.Text.{isText}
+use Rattle.layout.specs.declared.Sizes.{Sizes}
+use Rattle.bytes_key.specs.Keys.{keyBytes}
+use Rattle.kind_table.specs.Rows.{frontMode}
+use Rattle.model.specs.Names.{entered}
+use Rattle.model.specs.Kinds.{row}
+use Rattle.model.specs.Steps.{shapeRefusal}
+use Rattle.model.proofs.Legal.{legal-shape}
+use Rattle.names.proofs.Second.{shape-second}
+use Rattle.search.specs.declared.Search.{Search}
+use Rattle.search.specs.declared.Sought.{Sought}
+use Rattle.search.specs.Found.{EndsKey, EndedBy}
+use Rattle.search.proofs.Keys.{scanned-hash, on-hash, string-paged, paged-fits, string-key}
+use Rattle.search.proofs.Ends.{key-ends}
+use Rattle.search.proofs.Ascii.{ascii-text, no_bytes}
+use Rattle.search.proofs.find_str.Goals as goal
+
+-- The hash of the tag, taken on over the text, is that of the key.
+hashed : (mode : Mode) (tag text : Bytes) (g h : ℕ) → g ≡ fnvFrom 2166136261 (bytes_of mode tag) → h ≡ fnvFrom g text → h ≡ fnvOf (keyBytes mode tag Raw text)
+hashed mode tag text g h p q = on-hash mode tag text g h (scanned-hash _ g p) q
+
+-- The search for the name ended where the search for its key did.
+ended : (s : Sizes) (pages lists : Bytes) (k : ℕ) (text tag : Bytes) (mode : Mode) (x : Sought) (r : Search) → shapeRefusal s (entered k text tag) ≡ none
+    → (row k).paired ≡ false
+    → mode ≡ frontMode (row k).way
+    → x.h ≡ fnvOf (keyBytes mode tag Raw text)
+    → EndsKey s pages lists k (keyBytes mode tag Raw text) r
+    → EndedBy s pages lists k [] ((row k).rest (entered k text tag)) x r
+ended s pages lists k text tag mode x r shape flat m h e =
+    let key : (row k).rest (entered k text tag) ≡ keyBytes mode tag Raw text =
+    string-key k text tag flat (shape-second s (entered k text tag) shape) ∙ ap (λ (m : Mode). keyBytes m tag Raw text) (sym m) in
+    key-ends s pages lists k [] ((row k).rest (entered k text tag)) x (keyBytes mode tag Raw text) r e
+    (λ p t. record {
+      f = 0;
+      behind = λ q. absurd (false≢true (sym flat ∙ q));
+      hashed = rw flat (h ∙ ap fnvOf (sym key));
+      searched = rw (flat, key) t;
+    })
+
+no_tag : (tag : Bytes) → length tag ≡ 0 → isText tag ≡ true
+no_tag [] e = no_bytes
+no_tag (x ∷ tag) e = absurd (omega arith)
+
+pub find_key-requires : goal.find_key-requires
+find_key-requires c =
+    let a = c.args in
+    let mode = c.front_mode-mode.result in
+    let l = (legal-shape _ _ c.requires.1).size in (
+      c.requires.0,
+      c.main_dictionary.ensures.0,
+      record {
+        hashed = hashed mode a.tag.now a.text.now _ _ c.hash_on.ensures c.scan-x.ensures.0;
+        fits = paged-fits a.s _ c.requires.0.ranged (string-paged a.s _ a.tag.now a.text.now c.requires.0.ranged (omega (arith, l)));
+      },
+    )
+
+pub returns-then-tag-eq0-clause-ended : goal.returns-then-tag-eq0-clause-ended
+returns-then-tag-eq0-clause-ended c =
+    let a = c.args in
+    let mode = c.front_mode-mode.result in
+    ended a.s a.pages.now a.lists.now a.k a.text.now a.tag.now mode _ _ c.requires.1 c.requires.2 c.front_mode-mode.ensures
+    (hashed mode a.tag.now a.text.now _ _ c.hash_on.ensures c.scan-x.ensures.0)
+    c.find_key.ensures
+
+pub returns-then-tag-eq0-clause-ascii : goal.returns-then-tag-eq0-clause-ascii
+returns-then-tag-eq0-clause-ascii c =
+    λ p. (ascii-text c.args.text.now 0 (subst (λ (n : ℕ). n < 128) c.scan-x.ensures.1 (ltb-true _ _ p)), no_tag c.args.tag.now c.if-tag-eq0.true)
+
+pub returns-else-tag-eq0-clause-ended : goal.returns-else-tag-eq0-clause-ended
+returns-else-tag-eq0-clause-ended c =
+    let a = c.args in
+    let mode = c.front_mode-mode.result in
+    ended a.s a.pages.now a.lists.now a.k a.text.now a.tag.now mode _ _ c.requires.1 c.requires.2 c.front_mode-mode.ensures
+    (hashed mode a.tag.now a.text.now _ _ c.hash_on.ensures c.scan-x.ensures.0)
+    c.find_key.ensures
