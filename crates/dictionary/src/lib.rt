@@ -1,4 +1,6 @@
 // The entry that adds a name to the dictionary in lent memory. It takes any memory and any arguments, and answers or refuses as document 01 says.
+#![tactic(auto)]
+
 ghost use Rattle.model.specs.Names.{entered};
 ghost use Rattle.memory.specs.Promises.{AddPost};
 ghost use Rattle.commit.specs.Answers.{addedBy};

@@ -1,4 +1,6 @@
 // The entry that finds: the number of a name. It takes any memory and any arguments, and answers or refuses as document 01 says.
+#![tactic(auto)]
+
 ghost use Rattle.model.specs.Names.{entered};
 ghost use Rattle.memory.specs.Promises.{FindPost};
 ghost use Rattle.dictionary_find.specs.Answers.{foundBy};
@@ -8,7 +10,7 @@ use meta_dv_dict::{GlobalId, Number};
 use refusals::{Checked, Refusal};
 use search::Search;
 
-#[derive(Drop)]
+#[derive(Clone, Copy)]
 pub enum FindResult {
     Known(GlobalId),
     Nothing,
@@ -23,7 +25,7 @@ pub fn find<'a>(
     first: &'a [u8],
     second: &'a [u8],
 ) -> FindResult
-    ensures { FindPost pages.now lists.now (entered kind first.now second.now) (foundBy result) pages.now lists.now }
+    ensures { FindPost pages.entry.now lists.entry.now (entered kind first.now second.now) (foundBy result) pages.exit.now lists.exit.now }
 {
     let Header::Opened(s) = header::check_header(pages, lists) else {
         return FindResult::Refused(Refusal::Unopened);

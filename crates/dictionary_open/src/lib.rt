@@ -1,11 +1,13 @@
 // The entry that opens: it makes lent memory a dictionary with no names. It takes any memory and any sizes, and answers or refuses as document 01 says.
+#![tactic(auto)]
+
 ghost use Rattle.memory.specs.Promises.{OpenPost};
 ghost use Rattle.dictionary_open.specs.Answers.{openedBy};
 
 use layout::{Made, Sizes};
 use refusals::Refusal;
 
-#[derive(Drop)]
+#[derive(Clone, Copy)]
 pub enum OpenResult {
     Done,
     Refused(Refusal),
@@ -21,7 +23,7 @@ pub fn open(
     w: usize,
     b: usize,
 ) -> OpenResult
-    ensures { OpenPost (record { p = p; n = n; e = e; w = w; b = b }) pages.now lists.old (openedBy result) pages.now lists.new }
+    ensures { OpenPost (record { p = p; n = n; e = e; w = w; b = b }) pages.entry.now lists.old (openedBy result) pages.exit.now lists.new }
 {
     let Made::Fit(s) = Sizes::new(p, n, e, w, b) else {
         return OpenResult::Refused(Refusal::BadSize);

@@ -1,4 +1,6 @@
 // The entries that read by number and by kind: read, count. Each takes any memory and any arguments, and answers or refuses as document 01 says.
+#![tactic(auto)]
+
 ghost use Rattle.memory.specs.Promises.{ReadPost, CountPost};
 ghost use Rattle.dictionary_read.specs.Answers.{toldBy, countedBy};
 
@@ -10,7 +12,7 @@ use meta_dv_dict::GlobalId;
 use refusals::Refusal;
 
 // A name's kind and the lengths of its parts.
-#[derive(Drop)]
+#[derive(Clone, Copy)]
 pub enum ReadResult {
     Name {
         kind: usize,
@@ -21,7 +23,7 @@ pub enum ReadResult {
     Refused(Refusal),
 }
 
-#[derive(Drop)]
+#[derive(Clone, Copy)]
 pub enum CountResult {
     Names(usize),
     Refused(Refusal),
@@ -29,7 +31,7 @@ pub enum CountResult {
 
 // The name that has a number: its parts at the buffer's start, one after the other.
 pub fn read(pages: &[u8], lists: &[u8], number: GlobalId, buffer: &mut [u8]) -> ReadResult
-    ensures { ReadPost pages.now lists.now number.0 buffer.old (toldBy result) buffer.new pages.now lists.now }
+    ensures { ReadPost pages.entry.now lists.entry.now number.0 buffer.old (toldBy result) buffer.new pages.exit.now lists.exit.now }
 {
     let Header::Opened(s) = header::check_header(pages, lists) else {
         return ReadResult::Refused(Refusal::Unopened);
@@ -56,7 +58,7 @@ pub fn read(pages: &[u8], lists: &[u8], number: GlobalId, buffer: &mut [u8]) -> 
 
 // How many names of a kind there are.
 pub fn count(pages: &[u8], lists: &[u8], kind: usize) -> CountResult
-    ensures { CountPost pages.now lists.now kind (countedBy result) pages.now lists.now }
+    ensures { CountPost pages.entry.now lists.entry.now kind (countedBy result) pages.exit.now lists.exit.now }
 {
     let Header::Opened(s) = header::check_header(pages, lists) else {
         return CountResult::Refused(Refusal::Unopened);

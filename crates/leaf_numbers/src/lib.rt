@@ -1,4 +1,6 @@
 // What the exported leaf rules return: structs of numbers, and the numbers of each answer. include/namedict.h declares the structs.
+#![tactic(auto)]
+
 ghost use Rattle.std.specs.Prelude.{◌≡◌};
 ghost use Rattle.ranked_pair_iri_dv_dict.specs.Split.{length_of};
 ghost use Rattle.leaf_numbers.specs.Numbers.{yesNo, writtenNumbers, valueNumbers, unpackedNumbers};
@@ -10,7 +12,7 @@ use string_dv_dict_unpack::Unpacked;
 
 // What packing and writing a frequent id return.
 #[repr(C)]
-#[derive(Drop)]
+#[derive(Clone, Copy)]
 pub struct NamedictWritten {
     pub refusal: u64,
     pub length: u64,
@@ -18,7 +20,7 @@ pub struct NamedictWritten {
 
 // What reading a frequent id returns.
 #[repr(C)]
-#[derive(Drop)]
+#[derive(Clone, Copy)]
 pub struct NamedictValue {
     pub refusal: u64,
     pub value: u64,
@@ -27,7 +29,7 @@ pub struct NamedictValue {
 
 // What unpacking returns.
 #[repr(C)]
-#[derive(Drop)]
+#[derive(Clone, Copy)]
 pub struct NamedictUnpacked {
     pub refusal: u64,
     pub text_len: u64,

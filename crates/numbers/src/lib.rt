@@ -1,5 +1,7 @@
 // What the exported entries of the dictionary return: structs of numbers, and the numbers of each answer. include/namedict.h declares the structs. The leaf
 // rules have theirs in leaf_numbers.
+#![tactic(auto)]
+
 ghost use Rattle.std.specs.Prelude.{◌≡◌};
 ghost use Rattle.commit.specs.Answers.{addedBy};
 ghost use Rattle.dictionary_open.specs.Answers.{openedBy};
@@ -15,7 +17,7 @@ use refusals::Refusal;
 
 // What add and find return. The word says which answer: 0 none, 1 fresh, 2 known.
 #[repr(C)]
-#[derive(Drop)]
+#[derive(Clone, Copy)]
 pub struct NamedictNumbered {
     pub refusal: u64,
     pub word: u64,
@@ -24,7 +26,7 @@ pub struct NamedictNumbered {
 
 // What read returns. The word is 4 for a name, 0 for none.
 #[repr(C)]
-#[derive(Drop)]
+#[derive(Clone, Copy)]
 pub struct NamedictName {
     pub refusal: u64,
     pub word: u64,
@@ -35,7 +37,7 @@ pub struct NamedictName {
 
 // What count returns.
 #[repr(C)]
-#[derive(Drop)]
+#[derive(Clone, Copy)]
 pub struct NamedictCounted {
     pub refusal: u64,
     pub count: u64,

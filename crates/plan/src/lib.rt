@@ -1,4 +1,6 @@
 // The plan of an add: where a name's entries go, its block and its stamp. It decides refusals 8, 9 and 10, and writes nothing. The memory may hold any bytes.
+#![tactic(auto)]
+
 ghost use Rattle.std.specs.Prelude.{◌≤◌, ◌<◌, length};
 ghost use Rattle.layout.specs.Sizes.{InRange, kinds, pageSize, listBytes};
 ghost use Rattle.plan.specs.Plans.{PlansHead, Plans};
@@ -9,7 +11,7 @@ use plan_room::{Chosen, Room};
 use refusals::{Checked, Refusal};
 
 // Where a head goes. If no head is to be entered, its spot is NoPage, at which nothing is written.
-#[derive(Drop)]
+#[derive(Clone, Copy)]
 enum HeadPlanned {
     At(Spot),
     Refused(Refusal),
@@ -37,7 +39,7 @@ fn plan_head(
 }
 
 // What an add writes: the number of the main entry, the spots of the head and of the main entry, the block and the stamp.
-#[derive(Drop)]
+#[derive(Clone, Copy)]
 pub struct Plan {
     pub n: usize,
     pub head: Spot,
@@ -46,7 +48,7 @@ pub struct Plan {
     pub stamp: usize,
 }
 
-#[derive(Drop)]
+#[derive(Clone, Copy)]
 pub enum Planned {
     Ready(Plan),
     Refused(Refusal),

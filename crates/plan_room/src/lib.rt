@@ -1,5 +1,7 @@
 // The steps of a plan: the room in the lists, the check of a spot, the block and the stamp of a name. They give refusals 8, 9 and 10, and write nothing. The memory
 // may hold any bytes.
+#![tactic(auto)]
+
 ghost use Rattle.std.specs.Prelude.{◌≡◌, ◌≤◌, ◌<◌, length};
 ghost use Rattle.layout.specs.Sizes.{InRange, kinds, listBytes};
 ghost use Rattle.plan_room.specs.Steps.{spotChecked, blockRefused, Stamps, Chooses, RoomIn};
@@ -11,7 +13,7 @@ use layout::{KINDS, Sizes};
 use refusals::{Checked, Refusal};
 
 // A stamp for the order of the names. Bad: the memory is no dictionary's.
-#[derive(Drop)]
+#[derive(Clone, Copy)]
 enum Stamp {
     At(usize),
     Bad,
@@ -48,7 +50,7 @@ pub fn check_spot(spot: Spot) -> Checked
 }
 
 // Where the next name of a kind goes: its block, and its stamp.
-#[derive(Drop)]
+#[derive(Clone, Copy)]
 pub enum Chosen {
     Block { g: usize, stamp: usize },
     Refused(Refusal),
@@ -81,7 +83,7 @@ pub fn choose_block(lists: &[u8], s: Sizes, k: usize, n: usize) -> Chosen
 }
 
 // What is looked at before a spot is planned: the number of the name, and the lowest untaken page.
-#[derive(Drop)]
+#[derive(Clone, Copy)]
 pub enum Room {
     Left { n: usize, untaken: usize },
     Refused(Refusal),

@@ -1,0 +1,89 @@
+-- What the search and the add of a legal name promise is add's promise, once the header and the name are checked. Assumes nothing.
+use Rattle.std.proofs.Common.{◌≡◌, length, sym, subst, ◌∙◌}
+use Rattle.std.proofs.Math.Option.{none}
+use Rattle.slices.specs.Bytes.{Bytes}
+use Rattle.layout.specs.declared.Sizes.{Sizes}
+use Rattle.layout.specs.Lent.{Lent}
+use Rattle.layout.specs.Sizes.{kinds}
+use Rattle.header.specs.declared.Header.TheVariants.{Opened}
+use Rattle.header.specs.Header.{headerOf}
+use Rattle.refusals.proofs.Told.{told-legal, told-illegal}
+use Rattle.model.specs.Names.{Name, entered}
+use Rattle.model.specs.Kinds.{row}
+use Rattle.model.specs.Steps.{shapeRefusal, checks}
+use Rattle.model.proofs.Legal.{legal-shape, shape-refused, text-decides}
+use Rattle.search.specs.declared.Search.{Search}
+use Rattle.search.specs.declared.Sought.{Sought}
+use Rattle.search.specs.Found.{EndedBy, SearchEnded}
+use Rattle.enter.proofs.Named.{adds-known, adds-bad}
+use Rattle.memory.proofs.Headers.{header, in-range}
+use Rattle.dictionary.proofs.Adds.{add-unopened, add-illegal, add-legal}
+use Rattle.dictionary.proofs.add.Goals as goal
+
+lent : (s : Sizes) (pages lists : Bytes) (a : Name) → headerOf (length pages) lists ≡ Opened s → shapeRefusal s a ≡ none → Lent s pages lists kinds a.kind
+lent s pages lists a e h =
+    let o = header pages lists s e in
+    record { ranged = in-range pages lists s e; pages-fit = o.pages-fit; lists-fit = o.lists-fit; known = (legal-shape s a h).kind }
+
+-- Where the search ended, by its answer.
+ended : (s : Sizes) (pages lists : Bytes) (a : Name) (y : Sought) (r : Search) → SearchEnded s pages lists a y → y.found ≡ r
+    → EndedBy s pages lists a.kind ((row a.kind).head a) ((row a.kind).rest a) y r
+ended s pages lists a y r E e = subst (EndedBy s pages lists a.kind ((row a.kind).head a) ((row a.kind).rest a) y) e E
+
+pub returns-in_default : goal.returns-in_default
+returns-in_default c = add-unopened _ _ (entered c.args.kind c.args.first.now c.args.second.now) (sym c.in_default.ensures)
+
+pub returns-in-Illegal : goal.returns-in-Illegal
+returns-in-Illegal c =
+    add-illegal _ _ _ (sym c.in-Opened.ensures) (entered c.args.kind c.args.first.now c.args.second.now) _
+    (shape-refused _ _ _ (told-illegal _ _ (sym c.in-Illegal.ensures)))
+
+pub find_name-x-requires : goal.find_name-x-requires
+find_name-x-requires c =
+    let a = entered c.args.kind c.args.first.now c.args.second.now in
+    let h = told-legal (shapeRefusal c.in-Opened.s a) (sym c.in_default-check_shape.ensures) in
+    (lent c.in-Opened.s c.args.pages.now c.args.lists.now a (sym c.in-Opened.ensures) h, h)
+
+pub returns-in-Illegal-check_text : goal.returns-in-Illegal-check_text
+returns-in-Illegal-check_text c =
+    let a = entered c.args.kind c.args.first.now c.args.second.now in
+    let h = told-legal (shapeRefusal c.in-Opened.s a) (sym c.in_default-check_shape.ensures) in
+    add-illegal _ _ _ (sym c.in-Opened.ensures) a _ (text-decides _ _ h ∙ told-illegal _ _ (sym c.in-Illegal-check_text.ensures))
+
+pub known-requires : goal.known-requires
+known-requires c =
+    let a = entered c.args.kind c.args.first.now c.args.second.now in
+    let h = told-legal (shapeRefusal c.in-Opened.s a) (sym c.in_default-check_shape.ensures) in
+    let l = lent c.in-Opened.s c.args.pages.now c.args.lists.now a (sym c.in-Opened.ensures) h in
+    (l.ranged, l.lists-fit, l.known)
+
+pub add_name-requires-clause-lent : goal.add_name-requires-clause-lent
+add_name-requires-clause-lent c =
+    let a = entered c.args.kind c.args.first.now c.args.second.now in
+    let h = told-legal (shapeRefusal c.in-Opened.s a) (sym c.in_default-check_shape.ensures) in
+    (lent c.in-Opened.s c.args.pages.now c.args.lists.now a (sym c.in-Opened.ensures) h, h)
+
+pub returns-in-Found : goal.returns-in-Found
+returns-in-Found c =
+    let a = entered c.args.kind c.args.first.now c.args.second.now in
+    let h = told-legal (shapeRefusal c.in-Opened.s a) (sym c.in_default-check_shape.ensures) in
+    let l : checks c.in-Opened.s a ≡ none = text-decides _ _ h ∙ told-legal _ (sym c.in_default-check_text.ensures) in
+    let t = lent c.in-Opened.s c.args.pages.now c.args.lists.now a (sym c.in-Opened.ensures) h in
+    add-legal _ _ _ (sym c.in-Opened.ensures) a l _ _ _
+    (adds-known _ _ _ a t _ _ (ended _ _ _ _ _ _ c.find_name-x.ensures.ended c.in-Found.is) _ c.known.ensures)
+
+pub returns-in-Missing : goal.returns-in-Missing
+returns-in-Missing c =
+    let a = entered c.args.kind c.args.first.now c.args.second.now in
+    let h = told-legal (shapeRefusal c.in-Opened.s a) (sym c.in_default-check_shape.ensures) in
+    let l : checks c.in-Opened.s a ≡ none = text-decides _ _ h ∙ told-legal _ (sym c.in_default-check_text.ensures) in
+    add-legal _ _ _ (sym c.in-Opened.ensures) a l _ _ _ c.add_name.ensures
+
+pub returns-in-Bad : goal.returns-in-Bad
+returns-in-Bad c =
+    let a = entered c.args.kind c.args.first.now c.args.second.now in
+    let h = told-legal (shapeRefusal c.in-Opened.s a) (sym c.in_default-check_shape.ensures) in
+    let l : checks c.in-Opened.s a ≡ none = text-decides _ _ h ∙ told-legal _ (sym c.in_default-check_text.ensures) in
+    let t = lent c.in-Opened.s c.args.pages.now c.args.lists.now a (sym c.in-Opened.ensures) h in
+    add-legal _ _ _ (sym c.in-Opened.ensures) a l _ _ _
+    (adds-bad _ _ _ a t c.find_name-x.result (ended _ _ _ _ _ _ c.find_name-x.ensures.ended c.in-Bad.is))
