@@ -7,4 +7,3 @@ pub mod Tables
 pub mod Written
 pub mod Unique
 pub mod Answers
-pub mod Tags

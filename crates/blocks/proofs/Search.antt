@@ -17,9 +17,6 @@ search-agree t u g (suc n) h =
     let ih : search t (suc g) n ≡ search u (suc g) n = search-agree t u (suc g) n (λ i f l. h i (omega arith) (omega arith)) in
     rw (h g (omega arith) (omega arith), ih)
 
-pub search-end : (t : ℕ → Block) (b g : ℕ) → b ≤ g → search t g (b - g) ≡ none
-search-end t b g h = let e : b - g ≡ 0 = omega arith in ap (search t g) e
-
 module _ (lists : Bytes) (at b g : ℕ) (h : g < b) where
   more : b - g ≡ suc (b - (g + 1))
   more = omega arith

@@ -25,13 +25,6 @@ no_room (Next page) e = let z : ◌≡◌ {A = ℕ} 0 1 = cc in absurd (omega ar
 no_room NoPage e = inl refl
 no_room Bad e = inr refl
 
--- A spot at which an entry can be written has a room.
-pub room-spot : (spot : Spot) (page offset : ℕ) → roomOf spot ≡ At page offset → IsSpot spot
-room-spot (Current p o) page offset e = tt
-room-spot (Next p) page offset e = tt
-room-spot NoPage page offset e = let z : ◌≡◌ {A = ℕ} 0 1 = cc in absurd (omega arith)
-room-spot Bad page offset e = let z : ◌≡◌ {A = ℕ} 0 1 = cc in absurd (omega arith)
-
 -- The room has what the spot has.
 pub room_fits : (s : Sizes) (len : ℕ) (spot : Spot) (page offset : ℕ) → HasRoom s len spot → roomOf spot ≡ At page offset
     → (page < s.n) × (offset + len ≤ pageSize s)

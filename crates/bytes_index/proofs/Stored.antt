@@ -62,11 +62,6 @@ field-bad s w h = go (split (ltb (page_of w) s.n && leb (offset_of w + size_of w
         (leb-true (offset_of w + size_of w) (pageSize s) (and_right (ltb (page_of w) s.n) _ p)))
     go (inr p) = rw p
 
--- An entry that was read: what its word says, inside the pages.
-pub span-found : (s : Sizes) (pages : Bytes) (w at len : ℕ) (r : Span) → pageBytes s ≤ length pages → SpanOf s w r → r ≡ At at len
-    → (entryField s w ≡ At at len) × (at + len ≤ length pages)
-span-found s pages w at len r l L e = (sym L.field ∙ e, omega (arith, subst (SpanInside s) e L.inside))
-
 -- ---- the part of the pages
 
 -- The bytes that an entry's word stands for are those of the part.

@@ -2,7 +2,7 @@
 use crate::show;
 
 // Two hashes of the lent memory.
-#[derive(Drop)]
+#[derive(Clone, Copy)]
 struct Hashes {
     pages: u32,
     lists: u32,

@@ -1,5 +1,7 @@
 // Makes the calls that its input lists, on all the exported entries. Prints each with its answer.
 // tools/expected_calls.py makes the files stdin and stdout. It has the answers from document 01, from published vectors, and from a running Nemo.
+#![tactic(auto)]
+
 mod call;
 mod leaf;
 mod run;

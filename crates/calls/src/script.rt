@@ -5,14 +5,14 @@
 ghost use Rattle.std.specs.Prelude.{◌≡◌, ◌<◌, ◌≤◌, length};
 
 // The value of a word, and where the next word begins.
-#[derive(Drop)]
+#[derive(Clone, Copy)]
 pub struct Word {
     pub value: u64,
     pub end: usize,
 }
 
 // A byte, how often it is repeated, and where its text in the line ends.
-#[derive(Drop)]
+#[derive(Clone, Copy)]
 struct Run {
     byte: u8,
     count: usize,

@@ -2,7 +2,7 @@
 use numbers::{NamedictCounted, NamedictName, NamedictNumbered};
 
 // How bytes are printed: as they are between quotes, in hexadecimal, or as runs of equal bytes.
-#[derive(Drop)]
+#[derive(Clone, Copy)]
 enum How {
     Quoted,
     Hex,
@@ -10,7 +10,7 @@ enum How {
 }
 
 // A run of equal bytes that is not printed yet.
-#[derive(Drop)]
+#[derive(Clone, Copy)]
 struct Run {
     byte: u8,
     count: u64,

@@ -14,7 +14,7 @@ const WIDTH: u64 = 14;
 const COUNT: u64 = 4;
 
 // What the lines of a file are: those of the base, or lines that are held against it, to tell what differs or to tell each name's two numbers.
-#[derive(Drop)]
+#[derive(Clone, Copy)]
 pub enum Role {
     Base,
     Compared,

@@ -7,7 +7,7 @@ use crate::report::Tally;
 use crate::{compare, line, number, report};
 
 // What to do with a line: number its name, read its number back, or take it as a line of one of two numberings.
-#[derive(Drop)]
+#[derive(Clone, Copy)]
 pub enum Task {
     Number,
     Read,
@@ -145,7 +145,7 @@ fn keep(buf: &mut [u8], n: usize, end: usize) -> usize
 }
 
 // What one read has brought. `end`: how many bytes the buffer has then.
-#[derive(Drop)]
+#[derive(Clone, Copy)]
 struct Filled {
     end: usize,
     failed: bool,
@@ -181,7 +181,7 @@ fn cut_short(t: Tally, full: bool, first: u8) -> Tally {
 }
 
 // What one turn leaves: the tally, and how many bytes at the buffer's front are the start of a line.
-#[derive(Drop)]
+#[derive(Clone, Copy)]
 struct Ran {
     tally: Tally,
     kept: usize,

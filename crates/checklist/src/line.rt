@@ -4,7 +4,7 @@ ghost use Rattle.std.specs.Prelude.{◌≤◌, length};
 use parts::Mode;
 
 // A number, and where it ends.
-#[derive(Drop)]
+#[derive(Clone, Copy)]
 pub struct Decimal {
     pub found: bool,
     pub value: u64,
@@ -12,7 +12,7 @@ pub struct Decimal {
 }
 
 // A name's kind, where its first part begins, where that ends, and where the second part begins.
-#[derive(Drop)]
+#[derive(Clone, Copy)]
 pub struct Name {
     pub found: bool,
     pub kind: u64,

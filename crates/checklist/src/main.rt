@@ -1,4 +1,6 @@
 // The field checklist on the command line: numbers names, reads numbers back, compares or pairs two numberings. The README has the commands.
+#![tactic(auto)]
+
 mod compare;
 mod dictionary;
 mod input;
@@ -20,7 +22,7 @@ const MOST_WORDS: usize = 1000;
 const STOP: usize = 2000;
 
 // The word where the next command is, and the blocks of the dictionary that it gets.
-#[derive(Drop)]
+#[derive(Clone, Copy)]
 struct Next {
     word: usize,
     width: u64,
@@ -148,7 +150,7 @@ fn after(done: bool, i: usize, width: u64, count: u64) -> Next
 }
 
 // The commands. Unknown: a word that is none, or one with too few words behind it.
-#[derive(Drop)]
+#[derive(Clone, Copy)]
 enum Command {
     Number,
     Read,

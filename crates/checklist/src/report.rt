@@ -1,7 +1,7 @@
 // What is printed. A line that begins with '#' is a remark: it is no name and no number, and it is passed over when it is read again.
 
 // What the lines of a file have given so far.
-#[derive(Drop)]
+#[derive(Clone, Copy)]
 pub struct Tally {
     // Whether all of the file could be read.
     pub read: bool,

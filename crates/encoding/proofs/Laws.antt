@@ -83,11 +83,3 @@ tag-bytes tag = go (split (isLong tag))
     go (inr p) = rw (encoded-short (formOf tag) tag p, p)
 
 -- ---- comparing one byte
-
-pub and-true : (t : Bool) → t ≡ (t && true)
-and-true true = refl
-and-true false = refl
-
--- The byte a stands at `at`.
-pub same-one : (a at : ℕ) (s : Bytes) → at < length s → eqb a (get_or s at 0) ≡ sameBytes (a ∷ []) (take 1 (drop at s))
-same-one a at s l = rw (drop-cons s at 0) (and-true (eqb a (get_or s at 0)))

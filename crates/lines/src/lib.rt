@@ -1,4 +1,6 @@
 // Where a line or a word ends.
+#![tactic(auto)]
+
 ghost use Rattle.std.specs.Prelude.{◌≤◌, length};
 
 // Where the mark stands, from i on; the length if it is not there.

@@ -38,19 +38,11 @@ owner-free : (w number : ℕ) (st : State) (o : Block) → O.Free ≡ owned_by w
 owner-free w number st free e = refl
 owner-free w number st (held j l) e = let z : ◌≡◌ {A = ℕ} 0 1 = cc in absurd (omega arith)
 
-owner-bad : (w number : ℕ) (o : Block) → O.Bad ≡ owned_by w number o → ⊥
-owner-bad w number free e = let z : ◌≡◌ {A = ℕ} 0 1 = cc in omega arith
-owner-bad w number (held j l) e = let z : ◌≡◌ {A = ℕ} 0 1 = cc in omega arith
-
 module _ (s : Sizes) (pages lists : Bytes) (number : ℕ) where
   pub located-free : Locals s lists number O.Free → LocatesName s pages lists number Nothing
   unfolding name_of
   located-free L =
       record { range = tt; right = λ st S. rw (owner-free s.w number st (st.blocks.owner (number / 2 ^ s.w)) (L.right st.blocks S.blocked)) tt }
-
-  pub located-unowned : Locals s lists number O.Bad → LocatesName s pages lists number Bad
-  located-unowned L =
-      record { range = tt; right = λ st S. absurd (owner-bad s.w number (st.blocks.owner (number / 2 ^ s.w)) (L.right st.blocks S.blocked)) }
 
   -- The lookup of a local number's entry.
   module _ (there : pageBytes s ≤ length pages) (k : ℕ) (x : LocalId) (L : Locals s lists number (O.Local k x)) where

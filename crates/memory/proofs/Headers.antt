@@ -1,16 +1,21 @@
 -- What the check of the header says of the memory: of the promises' first cases, and of any state that it stands for. Assumes nothing.
 use Prim.Native.Nat.{ℕ}
 use mathlib.Core.Path.{◌≡◌, sym, ◌∙◌}
+use mathlib.Core.Option.{none}
 use native.Mathlib.Omega.{arith}
 use lib.ListN.{length}
 use Rattle.slices.specs.Bytes.{Bytes}
 use Rattle.layout.specs.declared.Sizes.{Sizes}
-use Rattle.layout.specs.Sizes.{InRange}
+use Rattle.layout.specs.Sizes.{kinds, InRange}
+use Rattle.layout.specs.Lent.{Lent}
 use Rattle.layout.proofs.Ranges.{ranged}
 use Rattle.header.specs.declared.Header.TheVariants.{Opened, Unopened}
 use Rattle.header.specs.Header.{headerOf, sizesIn, AlwaysUnopened, HeaderOf}
 use Rattle.header.proofs.Opening.{always, opened-by}
+use Rattle.model.specs.Names.{Name}
 use Rattle.model.specs.State.{State}
+use Rattle.model.specs.Steps.{shapeRefusal}
+use Rattle.model.proofs.Legal.{legal-shape}
 use Rattle.memory.specs.Stands.{Stands}
 use Rattle.memory.proofs.Counts.{header_is}
 
@@ -35,6 +40,10 @@ module _ (pages lists : Bytes) where
     not-always u =
         let q : Opened s ≡ Unopened = sym e ∙ always pages lists u in
         let z : ◌≡◌ {A = ℕ} 0 1 = cc in omega arith
+
+    -- What the call of a legal name may rely on.
+    pub lent : (a : Name) → shapeRefusal s a ≡ none → Lent s pages lists kinds a.kind
+    lent a h = record { ranged = in-range; pages-fit = header.pages-fit; lists-fit = header.lists-fit; known = (legal-shape s a h).kind }
 
     -- The sizes of any state that it stands for.
     pub one-sizes : (t : Sizes) (st : State) → Stands t st pages lists → t ≡ s

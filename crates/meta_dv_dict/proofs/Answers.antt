@@ -22,10 +22,6 @@ use Rattle.meta_dv_dict.specs.declared.Owner.TheVariants as O
 use Rattle.meta_dv_dict.specs.Answers.{Globals, owned_by, Locals}
 use Rattle.meta_dv_dict.proofs.Numbers.{in-begun}
 
--- A number fits: B is 4096 and a block 2^24 at the most.
-pub number_fits : (g size : ℕ) → g < 4096 → size ≤ 16777216 → g * size ≤ 68702699520
-number_fits g size h f = let l : g ≤ 4095 = omega arith in mul-le-mul l f
-
 -- ---- local_to_global
 
 module _ (s : Sizes) (lists : Bytes) (k n size : ℕ) (h : k < kinds) (Z : size ≡ 2 ^ s.w) where
@@ -76,10 +72,6 @@ module _ (s : Sizes) (b : Blocks) (lists : Bytes) (T : BlocksAt s b lists) where
       rw p (sym (owner-in s b lists T g h) ∙ ap wordOwner e)
 
 module _ (s : Sizes) (lists : Bytes) (n size : ℕ) (Z : size ≡ 2 ^ s.w) where
-  pub locals-past : s.b ≤ n / size → Locals s lists n O.Free
-  locals-past f = record {
-    range = tt;
-    right = λ b T. ap (owned_by s.w n) (sym (owner-past s b lists T (n / 2 ^ s.w) (rw Z at f)));
   }
 
   module _ (x : ℕ) (f : n / size < s.b) (e : wordAt lists (globalAt s (n / size)) ≡ x) where

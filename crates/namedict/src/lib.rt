@@ -1,4 +1,6 @@
 // The exported entries, for C and Rust: each calls the library and gives its answer's numbers. include/namedict.h declares them.
+#![tactic(auto)]
+
 ghost use Rattle.std.specs.Prelude.{◌≡◌, length};
 ghost use Rattle.utf8.specs.Text.{isText};
 ghost use Rattle.ranked_pair_iri_dv_dict.specs.Split.{head_of, length_of};
@@ -19,7 +21,7 @@ use numbers::{NamedictCounted, NamedictName, NamedictNumbered};
 #[unsafe(no_mangle)]
 pub extern "C" fn namedict_is_text(bytes: &[u8]) -> u64
     ensures value { result ≡ yesNo (isText bytes.now) }
-    ensures kept { bytes.now ≡ bytes.now }
+    ensures kept { bytes.exit.now ≡ bytes.entry.now }
 {
     leaf_numbers::yes_no(utf8::is_text(bytes))
 }
@@ -28,7 +30,7 @@ pub extern "C" fn namedict_is_text(bytes: &[u8]) -> u64
 #[unsafe(no_mangle)]
 pub extern "C" fn namedict_split_iri(iri: &[u8]) -> u64
     ensures value { result ≡ length_of (head_of iri.now) }
-    ensures kept { iri.now ≡ iri.now }
+    ensures kept { iri.exit.now ≡ iri.entry.now }
 {
     leaf_numbers::head_number(ranked_pair_iri_dv_dict::rfind_hashslash_plus(iri))
 }
@@ -45,7 +47,7 @@ pub extern "C" fn namedict_write_fid(value: u64, buffer: &mut [u8]) -> NamedictW
 #[unsafe(no_mangle)]
 pub extern "C" fn namedict_read_fid(bytes: &[u8]) -> NamedictValue
     ensures value { result ≡ valueNumbers (readFidAnswer bytes.now) }
-    ensures kept { bytes.now ≡ bytes.now }
+    ensures kept { bytes.exit.now ≡ bytes.entry.now }
 {
     leaf_numbers::value_numbers(ranked_pair_dictionary::read_frequent_id(bytes))
 }
@@ -54,7 +56,7 @@ pub extern "C" fn namedict_read_fid(bytes: &[u8]) -> NamedictValue
 #[unsafe(no_mangle)]
 pub extern "C" fn namedict_pack(text: &[u8], tag: &[u8], buffer: &mut [u8]) -> NamedictWritten
     ensures value { (result ≡ writtenNumbers (packAnswer text.now tag.now (length buffer.old))) × (buffer.new ≡ packBuffer text.now tag.now buffer.old) }
-    ensures kept { (text.now ≡ text.now) × (tag.now ≡ tag.now) }
+    ensures kept { (text.exit.now ≡ text.entry.now) × (tag.exit.now ≡ tag.entry.now) }
 {
     leaf_numbers::written_numbers(string_dv_dict::two_strings_to_one(text, tag, buffer))
 }
@@ -63,7 +65,7 @@ pub extern "C" fn namedict_pack(text: &[u8], tag: &[u8], buffer: &mut [u8]) -> N
 #[unsafe(no_mangle)]
 pub extern "C" fn namedict_unpack(packed: &[u8], buffer: &mut [u8]) -> NamedictUnpacked
     ensures value { (result ≡ unpackedNumbers (unpackAnswer packed.now (length buffer.old))) × (buffer.new ≡ unpackBuffer packed.now buffer.old) }
-    ensures kept { packed.now ≡ packed.now }
+    ensures kept { packed.exit.now ≡ packed.entry.now }
 {
     leaf_numbers::unpacked_numbers(string_dv_dict_unpack::one_string_to_two(packed, buffer))
 }
@@ -81,7 +83,7 @@ pub extern "C" fn namedict_open(
     block_width: u64,
     block_count: u64,
 ) -> u64
-    ensures { OpenReturned (record { p = page_width; n = page_count; e = list_length; w = block_width; b = block_count }) pages.now lists.old result pages.now lists.new }
+    ensures { OpenReturned (record { p = page_width; n = page_count; e = list_length; w = block_width; b = block_count }) pages.entry.now lists.old result pages.exit.now lists.new }
 {
     let answer = dictionary_open::open(
         pages,
@@ -104,8 +106,8 @@ pub extern "C" fn namedict_add<'a>(
     first: &'a [u8],
     second: &'a [u8],
 ) -> NamedictNumbered
-    ensures add_returned { AddReturned pages.old lists.old (entered kind first.now second.now) result pages.new lists.new }
-    ensures kept { (first.now ≡ first.now) × (second.now ≡ second.now) }
+    ensures value { AddReturned pages.old lists.old (entered kind first.now second.now) result pages.new lists.new }
+    ensures kept { (first.exit.now ≡ first.entry.now) × (second.exit.now ≡ second.entry.now) }
 {
     numbers::add_numbers(dictionary::add(pages, lists, kind as usize, first, second))
 }
@@ -119,8 +121,8 @@ pub extern "C" fn namedict_find<'a>(
     first: &'a [u8],
     second: &'a [u8],
 ) -> NamedictNumbered
-    ensures find_returned { FindReturned pages.now lists.now (entered kind first.now second.now) result pages.now lists.now }
-    ensures kept { (first.now ≡ first.now) × (second.now ≡ second.now) }
+    ensures value { FindReturned pages.entry.now lists.entry.now (entered kind first.now second.now) result pages.exit.now lists.exit.now }
+    ensures kept { (first.exit.now ≡ first.entry.now) × (second.exit.now ≡ second.entry.now) }
 {
     numbers::find_numbers(dictionary_find::find(pages, lists, kind as usize, first, second))
 }
@@ -133,7 +135,7 @@ pub extern "C" fn namedict_read(
     number: u64,
     buffer: &mut [u8],
 ) -> NamedictName
-    ensures { ReadReturned pages.now lists.now number buffer.old result buffer.new pages.now lists.now }
+    ensures { ReadReturned pages.entry.now lists.entry.now number buffer.old result buffer.new pages.exit.now lists.exit.now }
 {
     numbers::name_numbers(dictionary_read::read(pages, lists, GlobalId(number as usize), buffer))
 }
@@ -141,7 +143,7 @@ pub extern "C" fn namedict_read(
 // How many names of a kind there are.
 #[unsafe(no_mangle)]
 pub extern "C" fn namedict_count(pages: &[u8], lists: &[u8], kind: u64) -> NamedictCounted
-    ensures { CountReturned pages.now lists.now kind result pages.now lists.now }
+    ensures { CountReturned pages.entry.now lists.entry.now kind result pages.exit.now lists.exit.now }
 {
     numbers::count_numbers(dictionary_read::count(pages, lists, kind as usize))
 }

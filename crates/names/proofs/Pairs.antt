@@ -17,13 +17,6 @@ use Rattle.model.specs.Kinds.{Way, splits, whole, packs, pairs, hasHeads, headBy
 use Rattle.kind_table.specs.Rows.{isSplit}
 use Rattle.names.specs.Given.{IsPair, headSize, restBehind}
 
--- A first part that does not split is the head, and the second part the rest.
-pub whole-head : (k : ℕ) (first : Bytes) → isSplit (row k).way ≡ false → headSize k first ≡ length first
-whole-head k first n = rw n
-
-pub second-rest : (n k : ℕ) (first second : Bytes) → isSplit (row k).way ≡ false → second ≡ restBehind n k first second
-second-rest n k first second o = rw o
-
 -- The answer h of the split says how long the head is.
 split_at : (iri : Bytes) (h : Head) → h ≡ head_of iri → length_of h ≡ headLength iri
 split_at iri h e = ap length_of e ∙ head-length iri
@@ -33,9 +26,6 @@ pub iri-head : (k : ℕ) (iri : Bytes) (h : Head) → isSplit (row k).way ≡ tr
 iri-head k iri h z e =
     let f = split_at iri h e in
     rw z (f, omega (arith, f, head-le iri))
-
-pub iri-rest : (k n : ℕ) (iri second : Bytes) → isSplit (row k).way ≡ true → take (length iri - n) (drop n iri) ≡ restBehind n k iri second
-iri-rest k n iri second z = rw z (take_all (length iri - n) (drop n iri) (simp length-drop (omega arith)))
 
 -- What a way with heads makes of the parts.
 pair-by : (w : Way) (k : ℕ) (first second : Bytes) (n : ℕ) → hasHeads w ≡ true → n ≡ cond (isSplit w) (headLength first) (length first)

@@ -57,10 +57,6 @@ same-append [] y s = refl
 same-append (a ∷ x) y [] = refl
 same-append (a ∷ x) y (b ∷ s) = rw (same-append x y s, and_assoc)
 
--- What stands at the front of a list is no longer than the list.
-pub same-front : (x s : Bytes) → sameBytes x (take (length x) s) ≡ true → length x ≤ length s
-same-front x s e = omega (arith, simp length-take at (ap length (bytes-true x (take (length x) s) e)))
-
 -- Lists of different lengths are not the same.
 pub same_length : (x y : Bytes) → (length x ≢ length y) → sameBytes x y ≡ false
 same_length [] [] n = absurd (n refl)

@@ -66,24 +66,6 @@ stamps-sum s lists t l e =
 
 -- ---- the block and the stamp
 
--- No block was answered: the rule picks none, or the memory is no dictionary's.
-pub chooses_none : (s : Sizes) (lists : Bytes) (k n : ℕ) (r : Allocated) → Allocates s lists k n r → (tag_of the_type r ≡ 1) ⊎ (tag_of the_type r ≡ 2)
-    → Chooses s lists k n (blockRefused r)
-chooses_none s lists k n (A.Block g) G (inl e) = absurd (omega arith)
-chooses_none s lists k n (A.Block g) G (inr e) = absurd (omega arith)
-chooses_none s lists k n A.NoBlock G e =
-    record { bounded = inr refl; right = λ pages st S q. go (stampOf st.blocks) (pick s st.blocks k) (G.right st.blocks S.blocked q) }
-  where
-    go : (t : ℕ) (o : Option ℕ) → A.NoBlock ≡ allocated o → R.Refused NoBlock ≡ chosenBy t o
-    go t none f = refl
-    go t (some g) f = let z : ◌≡◌ {A = ℕ} 0 1 = cc in absurd (omega arith)
-chooses_none s lists k n A.Bad G e =
-    record { bounded = inl refl; right = λ pages st S q. go (stampOf st.blocks) (pick s st.blocks k) (G.right st.blocks S.blocked q) }
-  where
-    go : (t : ℕ) (o : Option ℕ) → A.Bad ≡ allocated o → R.Refused Unopened ≡ chosenBy t o
-    go t none f = let z : ◌≡◌ {A = ℕ} 0 1 = cc in absurd (omega arith)
-    go t (some g) f = let z : ◌≡◌ {A = ℕ} 0 1 = cc in absurd (omega arith)
-
 pub chooses-unstamped : (s : Sizes) (lists : Bytes) (k n : ℕ) → Stamps s lists T.Bad → Chooses s lists k n (R.Refused Unopened)
 chooses-unstamped s lists k n G =
     record {

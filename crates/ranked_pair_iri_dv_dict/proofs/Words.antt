@@ -68,13 +68,6 @@ no-marks (suc n) s b h e i u v =
 
 -- ---- passing
 
-pub unmarked-on : (s : Bytes) (b m e : ℕ) → Unmarked s b m → Unmarked s m e → Unmarked s b e
-unmarked-on s b m e p q i u v = go (split (ltb i m))
-  where
-    go : Split (ltb i m) → isMark (get_or s i 0) ≡ false
-    go (inl a) = p i u (ltb-true i m a)
-    go (inr a) = q i (ltb-false i m a) v
-
 -- The last n bytes have no part in the head if none of them is a mark.
 pub unmarked-head : (n r : ℕ) (s : Bytes) → r + n ≡ length s → Unmarked s r (length s) → headLength (take r s) ≡ headLength s
 unmarked-head zero r s e u = let p : r ≡ length s = omega arith in rw p (ap headLength (take-length s))

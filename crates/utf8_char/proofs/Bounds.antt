@@ -126,9 +126,6 @@ pub text-more : (x y : Step) (i : ℕ) (s : Bytes) → i < length s → y ≡ af
     → textFrom y (drop (i + 1) s) ≡ textFrom x (drop i s)
 text-more x y i s h e = rw (e, add-one, drop-cons s i 0)
 
-pub text-end : (x : Step) (i : ℕ) (s : Bytes) → length s ≤ i → textFrom x (drop i s) ≡ noneDue x
-text-end x i s h = rw (drop_of_length-le s h)
-
 -- With nothing due it is no matter what would be.
 pub none-due : (n lo hi : ℕ) → eqb n 0 ≡ true → (s : Bytes) → textFrom (Due n lo hi) s ≡ textFrom charStart s
 none-due n lo hi e [] = e

@@ -16,14 +16,9 @@ use Rattle.search.specs.declared.Search.{Search}
 use Rattle.search.specs.declared.Sought.{Sought}
 use Rattle.search.specs.Found.{EndedBy, SearchEnded}
 use Rattle.enter.proofs.Named.{adds-known, adds-bad}
-use Rattle.memory.proofs.Headers.{header, in-range}
+use Rattle.memory.proofs.Headers.{header, in-range, lent}
 use Rattle.dictionary.proofs.Adds.{add-unopened, add-illegal, add-legal}
 use Rattle.dictionary.proofs.add.Goals as goal
-
-lent : (s : Sizes) (pages lists : Bytes) (a : Name) → headerOf (length pages) lists ≡ Opened s → shapeRefusal s a ≡ none → Lent s pages lists kinds a.kind
-lent s pages lists a e h =
-    let o = header pages lists s e in
-    record { ranged = in-range pages lists s e; pages-fit = o.pages-fit; lists-fit = o.lists-fit; known = (legal-shape s a h).kind }
 
 -- Where the search ended, by its answer.
 ended : (s : Sizes) (pages lists : Bytes) (a : Name) (y : Sought) (r : Search) → SearchEnded s pages lists a y → y.found ≡ r
@@ -42,7 +37,7 @@ pub find_name-x-requires : goal.find_name-x-requires
 find_name-x-requires c =
     let a = entered c.args.kind c.args.first.now c.args.second.now in
     let h = told-legal (shapeRefusal c.in-Opened.s a) (sym c.in_default-check_shape.ensures) in
-    (lent c.in-Opened.s c.args.pages.now c.args.lists.now a (sym c.in-Opened.ensures) h, h)
+    (lent c.args.pages.now c.args.lists.now c.in-Opened.s (sym c.in-Opened.ensures) a h, h)
 
 pub returns-in-Illegal-check_text : goal.returns-in-Illegal-check_text
 returns-in-Illegal-check_text c =
@@ -54,21 +49,21 @@ pub known-requires : goal.known-requires
 known-requires c =
     let a = entered c.args.kind c.args.first.now c.args.second.now in
     let h = told-legal (shapeRefusal c.in-Opened.s a) (sym c.in_default-check_shape.ensures) in
-    let l = lent c.in-Opened.s c.args.pages.now c.args.lists.now a (sym c.in-Opened.ensures) h in
+    let l = lent c.args.pages.now c.args.lists.now c.in-Opened.s (sym c.in-Opened.ensures) a h in
     (l.ranged, l.lists-fit, l.known)
 
 pub add_name-requires-clause-lent : goal.add_name-requires-clause-lent
 add_name-requires-clause-lent c =
     let a = entered c.args.kind c.args.first.now c.args.second.now in
     let h = told-legal (shapeRefusal c.in-Opened.s a) (sym c.in_default-check_shape.ensures) in
-    (lent c.in-Opened.s c.args.pages.now c.args.lists.now a (sym c.in-Opened.ensures) h, h)
+    (lent c.args.pages.now c.args.lists.now c.in-Opened.s (sym c.in-Opened.ensures) a h, h)
 
 pub returns-in-Found : goal.returns-in-Found
 returns-in-Found c =
     let a = entered c.args.kind c.args.first.now c.args.second.now in
     let h = told-legal (shapeRefusal c.in-Opened.s a) (sym c.in_default-check_shape.ensures) in
     let l : checks c.in-Opened.s a ≡ none = text-decides _ _ h ∙ told-legal _ (sym c.in_default-check_text.ensures) in
-    let t = lent c.in-Opened.s c.args.pages.now c.args.lists.now a (sym c.in-Opened.ensures) h in
+    let t = lent c.args.pages.now c.args.lists.now c.in-Opened.s (sym c.in-Opened.ensures) a h in
     add-legal _ _ _ (sym c.in-Opened.ensures) a l _ _ _
     (adds-known _ _ _ a t _ _ (ended _ _ _ _ _ _ c.find_name-x.ensures.ended c.in-Found.is) _ c.known.ensures)
 
@@ -84,6 +79,6 @@ returns-in-Bad c =
     let a = entered c.args.kind c.args.first.now c.args.second.now in
     let h = told-legal (shapeRefusal c.in-Opened.s a) (sym c.in_default-check_shape.ensures) in
     let l : checks c.in-Opened.s a ≡ none = text-decides _ _ h ∙ told-legal _ (sym c.in_default-check_text.ensures) in
-    let t = lent c.in-Opened.s c.args.pages.now c.args.lists.now a (sym c.in-Opened.ensures) h in
+    let t = lent c.args.pages.now c.args.lists.now c.in-Opened.s (sym c.in-Opened.ensures) a h in
     add-legal _ _ _ (sym c.in-Opened.ensures) a l _ _ _
     (adds-bad _ _ _ a t c.find_name-x.result (ended _ _ _ _ _ _ c.find_name-x.ensures.ended c.in-Bad.is))

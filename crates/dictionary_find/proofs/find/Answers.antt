@@ -18,14 +18,9 @@ use Rattle.search.specs.declared.Search.{Search}
 use Rattle.search.specs.declared.Sought.{Sought}
 use Rattle.search.specs.Found.{Tells, EndedBy, SearchEnded}
 use Rattle.search.proofs.Ends.{tells}
-use Rattle.memory.proofs.Headers.{header, in-range}
+use Rattle.memory.proofs.Headers.{header, in-range, lent}
 use Rattle.dictionary_find.proofs.Finds.{find-unopened, find-illegal, find-known, find-bad-number, find_none, find-bad}
 use Rattle.dictionary_find.proofs.find.Goals as goal
-
-lent : (s : Sizes) (pages lists : Bytes) (a : Name) → headerOf (length pages) lists ≡ Opened s → shapeRefusal s a ≡ none → Lent s pages lists kinds a.kind
-lent s pages lists a e h =
-    let o = header pages lists s e in
-    record { ranged = in-range pages lists s e; pages-fit = o.pages-fit; lists-fit = o.lists-fit; known = (legal-shape s a h).kind }
 
 -- What the search says of a state, by its answer.
 told : (s : Sizes) (pages lists : Bytes) (a : Name) (y : Sought) (r : Search) → checks s a ≡ none → SearchEnded s pages lists a y → y.found ≡ r
@@ -45,7 +40,7 @@ pub find_name-y-requires : goal.find_name-y-requires
 find_name-y-requires c =
     let a = entered c.args.kind c.args.first.now c.args.second.now in
     let h = told-legal (shapeRefusal c.in-Opened.s a) (sym c.in_default-check_shape.ensures) in
-    (lent c.in-Opened.s c.args.pages.now c.args.lists.now a (sym c.in-Opened.ensures) h, h)
+    (lent c.args.pages.now c.args.lists.now c.in-Opened.s (sym c.in-Opened.ensures) a h, h)
 
 pub returns-in-Illegal-check_text : goal.returns-in-Illegal-check_text
 returns-in-Illegal-check_text c =
@@ -57,7 +52,7 @@ pub local_to_global-number-requires : goal.local_to_global-number-requires
 local_to_global-number-requires c =
     let a = entered c.args.kind c.args.first.now c.args.second.now in
     let h = told-legal (shapeRefusal c.in-Opened.s a) (sym c.in_default-check_shape.ensures) in
-    let l = lent c.in-Opened.s c.args.pages.now c.args.lists.now a (sym c.in-Opened.ensures) h in
+    let l = lent c.args.pages.now c.args.lists.now c.in-Opened.s (sym c.in-Opened.ensures) a h in
     (l.ranged, l.lists-fit, l.known)
 
 pub returns-in_default-number : goal.returns-in_default-number
