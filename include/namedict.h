@@ -1,4 +1,4 @@
-/* The exported entries of libnamedict.a, made by `rt staticlib namedict`.
+/* The exported entries of libnamedict.a, made by `tools/archive`.
  *
  * A byte slice passes as a pointer and then a length. Sizes, kinds and numbers
  * are uint64_t.

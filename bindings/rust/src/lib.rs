@@ -1,7 +1,7 @@
 //! The dictionary of a plant's asset names, for the configurator. It calls `libnamedict.a`, the
 //! same code as the firmware of the switches.
 //!
-//! `rt staticlib namedict` makes the archive, in the repository's `target/staticlib`. This crate
+//! `tools/archive` makes the archive, in the repository's `target/staticlib`. This crate
 //! links it from there, or from the folder that the environment variable `NAMEDICT_LIB_DIR` names.
 //!
 //! ```

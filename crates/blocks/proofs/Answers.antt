@@ -11,16 +11,16 @@ use lib.Dec.{ltb}
 use lib.Pow as Pow
 use Rattle.slices.specs.Bytes.{Bytes}
 use Rattle.slices.proofs.Tests.{Split, split}
-use Rattle.words.specs.Words.{wordAt, setWord}
+use Rattle.words.specs.Words.{word_at, set_word}
 use Rattle.layout.specs.declared.Sizes.{Sizes}
 use Rattle.layout.specs.Sizes.{kinds}
-use Rattle.layout.specs.Fields.{blocksAt, local_at}
+use Rattle.layout.specs.Fields.{blocks_at, local_at}
 use Rattle.blocks.specs.declared.Allocated.{Allocated}
 use Rattle.blocks.specs.declared.Allocated.TheVariants as A
 use Rattle.blocks.specs.declared.Held.TheVariants as H
 use Rattle.blocks.specs.Blocks.{Block, Blocks, search, start, pick}
-use Rattle.blocks.specs.Tables.{ownerIn, BlocksAt}
-use Rattle.blocks.specs.Answers.{allocated, AllocatedBelow, Allocates, heldBy, blockWritten}
+use Rattle.blocks.specs.Tables.{owner_in, BlocksAt}
+use Rattle.blocks.specs.Answers.{allocated, AllocatedBelow, Allocates, held_by, block_written}
 use Rattle.blocks.proofs.Steps.{search-free}
 use Rattle.blocks.proofs.Pigeons.{begun-below, picked-below}
 use Rattle.blocks.proofs.Search.{search-agree}
@@ -28,22 +28,22 @@ use Rattle.blocks.proofs.Tables.{owner-in}
 
 -- ---- the word of a local block
 
-pub held_none : (b x : ℕ) → x ≡ 0 → heldBy b x ≡ H.Bad
-unfolding heldBy
-held_none b x e = ap (heldBy b) e
+pub held_none : (b x : ℕ) → x ≡ 0 → held_by b x ≡ H.Bad
+unfolding held_by
+held_none b x e = ap (held_by b) e
 
-pub held-past : (b x : ℕ) → b < x → heldBy b x ≡ H.Bad
-unfolding heldBy
+pub held-past : (b x : ℕ) → b < x → held_by b x ≡ H.Bad
+unfolding held_by
 held-past b zero h = refl
 held-past b (suc x) h = rw (le-ltb x b (omega arith))
 
-pub held-there : (b x : ℕ) → x ≢ 0 → x ≤ b → heldBy b x ≡ H.In (x - 1)
-unfolding heldBy
+pub held-there : (b x : ℕ) → x ≢ 0 → x ≤ b → held_by b x ≡ H.In (x - 1)
+unfolding held_by
 held-there b zero d h = absurd (d refl)
 held-there b (suc x) d h = let e : suc x - 1 ≡ x = omega arith in rw (lt-ltb x b (omega arith), e)
 
-pub held_below : (b x g : ℕ) → heldBy b x ≡ H.In g → g < b
-unfolding heldBy
+pub held_below : (b x g : ℕ) → held_by b x ≡ H.In g → g < b
+unfolding held_by
 held_below b zero g e = let z : ◌≡◌ {A = ℕ} 0 1 = cc in absurd (omega arith)
 held_below b (suc x) g e = go (split (ltb x b))
   where
@@ -57,20 +57,20 @@ held_below b (suc x) g e = go (split (ltb x b))
 -- ---- memory that holds a state
 
 module _ (s : Sizes) (b : Blocks) (lists : Bytes) (T : BlocksAt s b lists) where
-  pub begun-held : (k l : ℕ) → k < kinds → l * 2 ^ s.w < b.next k → heldBy s.b (wordAt lists (local_at s k l)) ≡ H.In (b.block_of k l)
-  unfolding heldBy
+  pub begun-held : (k l : ℕ) → k < kinds → l * 2 ^ s.w < b.next k → held_by s.b (word_at lists (local_at s k l)) ≡ H.In (b.block_of k l)
+  unfolding held_by
   begun-held k l h g =
       let low : l < s.b = begun-below s.w s.b b k l T.sound T.below g in
       let far : b.block_of k l < s.b = T.below (b.block_of k l) k l (T.sound.there k l g) in
-      ap (heldBy s.b) (T.locals k l h low) ∙ rw (lt-ltb (l * 2 ^ s.w) (b.next k) g, add-one, lt-ltb (b.block_of k l) s.b far)
+      ap (held_by s.b) (T.locals k l h low) ∙ rw (lt-ltb (l * 2 ^ s.w) (b.next k) g, add-one, lt-ltb (b.block_of k l) s.b far)
 
   begins-pick : (k n : ℕ) → b.next k ≡ n → n % 2 ^ s.w ≡ 0
-      → pick s b k ≡ search (ownerIn lists (blocksAt s kinds)) (start b k (n / 2 ^ s.w)) (s.b - start b k (n / 2 ^ s.w))
+      → pick s b k ≡ search (owner_in lists (blocks_at s kinds)) (start b k (n / 2 ^ s.w)) (s.b - start b k (n / 2 ^ s.w))
   unfolding pick
   begins-pick k n e z =
       let from : ℕ = start b k (n / 2 ^ s.w) in
       rw (e, eq-eqb (n % 2 ^ s.w) zero z)
-      (search-agree b.owner (ownerIn lists (blocksAt s kinds)) from (s.b - from) (λ i f g. sym (owner-in s b lists T i (omega arith))))
+      (search-agree b.owner (owner_in lists (blocks_at s kinds)) from (s.b - from) (λ i f g. sym (owner-in s b lists T i (omega arith))))
 
   goes-on-pick : (k n : ℕ) → b.next k ≡ n → n % 2 ^ s.w ≢ 0 → pick s b k ≡ some (b.block_of k (n / 2 ^ s.w))
   unfolding pick
@@ -96,11 +96,11 @@ before-begun w n d =
 
 -- ---- take_block
 
-pub written_is : (s : Sizes) (lists : Bytes) (k n g size : ℕ) {at end : ℕ} {x y : Bytes} → size ≡ 2 ^ s.w → at ≡ blocksAt s k → end ≡ blocksAt s kinds
-    → x ≡ setWord lists (at + n / size) (g + 1) → y ≡ setWord x (end + g) (1 + k + 16 * (n / size)) → y ≡ blockWritten s lists k n g
-unfolding blockWritten
+pub written_is : (s : Sizes) (lists : Bytes) (k n g size : ℕ) {at end : ℕ} {x y : Bytes} → size ≡ 2 ^ s.w → at ≡ blocks_at s k → end ≡ blocks_at s kinds
+    → x ≡ set_word lists (at + n / size) (g + 1) → y ≡ set_word x (end + g) (1 + k + 16 * (n / size)) → y ≡ block_written s lists k n g
+unfolding block_written
 written_is s lists k n g size {at} {end} Z p q d e =
-    e ∙ ap (λ (t : Bytes). setWord t (end + g) (1 + k + 16 * (n / size))) d ∙ rw (Z, p, q)
+    e ∙ ap (λ (t : Bytes). set_word t (end + g) (1 + k + 16 * (n / size))) d ∙ rw (Z, p, q)
 
 -- ---- allocate_block
 
@@ -110,17 +110,17 @@ search-below t f b l (some g) e h = let r = search-free t f (b - f) g e in (omeg
 
 module _ (s : Sizes) (lists : Bytes) (k n size : ℕ) (h : k < kinds) (Z : size ≡ 2 ^ s.w) where
   abbrev word : ℕ → ℕ
-  word l = wordAt lists (local_at s k l)
+  word l = word_at lists (local_at s k l)
 
   pub allocates-past : s.b ≤ n / size → Allocates s lists k n A.NoBlock
   allocates-past f =
       let g : s.b ≤ n / 2 ^ s.w = rw Z at f in
       record { range = tt; right = λ b T e. ap allocated (sym (past-pick s b lists T k n e g)) }
 
-  pub allocates-held : (g : ℕ) → n / size < s.b → n % size ≢ 0 → heldBy s.b (word (n / size)) ≡ H.In g → Allocates s lists k n (A.Block g)
+  pub allocates-held : (g : ℕ) → n / size < s.b → n % size ≢ 0 → held_by s.b (word (n / size)) ≡ H.In g → Allocates s lists k n (A.Block g)
   allocates-held g f d e =
       let d' : n % 2 ^ s.w ≢ 0 = rw Z at d in
-      let e' : heldBy s.b (word (n / 2 ^ s.w)) ≡ H.In g = rw Z at e in
+      let e' : held_by s.b (word (n / 2 ^ s.w)) ≡ H.In g = rw Z at e in
       record {
         range = (held_below s.b (word (n / size)) g e, rw Z at f);
         right = λ b T p.
@@ -130,10 +130,10 @@ module _ (s : Sizes) (lists : Bytes) (k n size : ℕ) (h : k < kinds) (Z : size 
             ap A.Block v ∙ ap allocated (sym (goes-on-pick s b lists T k n p d'));
       }
 
-  pub allocates-bad : n % size ≢ 0 → heldBy s.b (word (n / size)) ≡ H.Bad → Allocates s lists k n A.Bad
+  pub allocates-bad : n % size ≢ 0 → held_by s.b (word (n / size)) ≡ H.Bad → Allocates s lists k n A.Bad
   allocates-bad d e =
       let d' : n % 2 ^ s.w ≢ 0 = rw Z at d in
-      let e' : heldBy s.b (word (n / 2 ^ s.w)) ≡ H.Bad = rw Z at e in
+      let e' : held_by s.b (word (n / 2 ^ s.w)) ≡ H.Bad = rw Z at e in
       record {
         range = tt;
         right = λ b T p.
@@ -143,29 +143,29 @@ module _ (s : Sizes) (lists : Bytes) (k n size : ℕ) (h : k < kinds) (Z : size 
       }
 
   pub allocates-first : (r : Allocated) → n / size < s.b → n % size ≡ 0 → n / size ≡ 0
-      → r ≡ allocated (search (ownerIn lists (blocksAt s kinds)) 0 (s.b - 0)) → Allocates s lists k n r
+      → r ≡ allocated (search (owner_in lists (blocks_at s kinds)) 0 (s.b - 0)) → Allocates s lists k n r
   allocates-first r f z l e =
       let z' : n % 2 ^ s.w ≡ 0 = rw Z at z in
       let l' : n / 2 ^ s.w ≡ 0 = rw Z at l in
       record {
-        range = rw e (search-below (ownerIn lists (blocksAt s kinds)) 0 s.b (n / 2 ^ s.w) _ refl (rw Z at f));
+        range = rw e (search-below (owner_in lists (blocks_at s kinds)) 0 s.b (n / 2 ^ s.w) _ refl (rw Z at f));
         right = λ b T p.
             let q : start b k (n / 2 ^ s.w) ≡ 0 = rw l' in
             e ∙ ap allocated (sym (rw q at (begins-pick s b lists T k n p z')));
       }
 
   pub allocates-next : (r : Allocated) (g : ℕ) → n / size < s.b → n % size ≡ 0 → n / size ≢ 0
-      → heldBy s.b (word (n / size - 1)) ≡ H.In g
-      → r ≡ allocated (search (ownerIn lists (blocksAt s kinds)) (g + (n / size - 1)) (s.b - (g + (n / size - 1))))
+      → held_by s.b (word (n / size - 1)) ≡ H.In g
+      → r ≡ allocated (search (owner_in lists (blocks_at s kinds)) (g + (n / size - 1)) (s.b - (g + (n / size - 1))))
       → Allocates s lists k n r
   allocates-next r g f z l o e =
       let z' : n % 2 ^ s.w ≡ 0 = rw Z at z in
       let l' : n / 2 ^ s.w ≢ 0 = rw Z at l in
-      let o' : heldBy s.b (word (n / 2 ^ s.w - 1)) ≡ H.In g = rw Z at o in
+      let o' : held_by s.b (word (n / 2 ^ s.w - 1)) ≡ H.In g = rw Z at o in
       let from : ℕ = g + (n / 2 ^ s.w - 1) in
-      let e' : r ≡ allocated (search (ownerIn lists (blocksAt s kinds)) from (s.b - from)) = rw Z at e in
+      let e' : r ≡ allocated (search (owner_in lists (blocks_at s kinds)) from (s.b - from)) = rw Z at e in
       record {
-        range = rw e' (search-below (ownerIn lists (blocksAt s kinds)) from s.b (n / 2 ^ s.w) _ refl (rw Z at f));
+        range = rw e' (search-below (owner_in lists (blocks_at s kinds)) from s.b (n / 2 ^ s.w) _ refl (rw Z at f));
         right = λ b T p.
             let u : H.In (b.block_of k (n / 2 ^ s.w - 1)) ≡ H.In g =
             sym (begun-held s b lists T k (n / 2 ^ s.w - 1) h (rw p (before-begun s.w n l'))) ∙ o' in
@@ -174,10 +174,10 @@ module _ (s : Sizes) (lists : Bytes) (k n size : ℕ) (h : k < kinds) (Z : size 
             e' ∙ ap allocated (sym (rw q at (begins-pick s b lists T k n p z')));
       }
 
-  pub allocates-bad-before : n / size ≢ 0 → heldBy s.b (word (n / size - 1)) ≡ H.Bad → Allocates s lists k n A.Bad
+  pub allocates-bad-before : n / size ≢ 0 → held_by s.b (word (n / size - 1)) ≡ H.Bad → Allocates s lists k n A.Bad
   allocates-bad-before l e =
       let l' : n / 2 ^ s.w ≢ 0 = rw Z at l in
-      let e' : heldBy s.b (word (n / 2 ^ s.w - 1)) ≡ H.Bad = rw Z at e in
+      let e' : held_by s.b (word (n / 2 ^ s.w - 1)) ≡ H.Bad = rw Z at e in
       record {
         range = tt;
         right = λ b T p.

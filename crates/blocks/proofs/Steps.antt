@@ -12,7 +12,7 @@ use lib.Dec.{eqb}
 use lib.Pow as Pow
 use Rattle.slices.proofs.Tests.{Split, split}
 use Rattle.layout.specs.declared.Sizes.{Sizes}
-use Rattle.blocks.specs.Blocks.{Block, free, held, Blocks, noBlocks, search, start, pick, took, tookPicked, blocksAfter}
+use Rattle.blocks.specs.Blocks.{Block, free, held, Blocks, no_blocks, search, start, pick, took, took_picked, blocks_after}
 use Rattle.blocks.specs.Sound.{Sound, Below, May, begins, goes_on}
 
 module _ (w : ℕ) (b : Blocks) (S : Sound w b) (k g : ℕ) where
@@ -144,14 +144,14 @@ step-sound s b k g S low e =
 
 -- Steps for kinds in order, newest first, from any sound state.
 pub steps-sound : (s : Sizes) (b : Blocks) → Sound s.w b → Below s.b b → (ks : List ℕ)
-    → Sound s.w (blocksAfter s b ks) × Below s.b (blocksAfter s b ks)
+    → Sound s.w (blocks_after s b ks) × Below s.b (blocks_after s b ks)
 steps-sound s b S low [] = (S, low)
 steps-sound s b S low (k ∷ ks) =
-    let t : Blocks = blocksAfter s b ks in
+    let t : Blocks = blocks_after s b ks in
     go t (steps-sound s b S low ks) (pick s t k) refl
   where
     go : (t : Blocks) → Sound s.w t × Below s.b t → (o : Option ℕ) → pick s t k ≡ o
-        → Sound s.w (tookPicked s.w t k o) × Below s.b (tookPicked s.w t k o)
+        → Sound s.w (took_picked s.w t k o) × Below s.b (took_picked s.w t k o)
     go t r none e = r
     go t r (some g) e = step-sound s t k g r.0 r.1 e
 
@@ -160,7 +160,7 @@ steps-sound s b S low (k ∷ ks) =
 pub not-held : {A : Type 0} {k l : ℕ} → free ≡ held k l → A
 not-held e = let z : ◌≡◌ {A = ℕ} 0 1 = cc in absurd (omega arith)
 
-pub opened-sound : (w n : ℕ) → Sound w noBlocks × Below n noBlocks
+pub opened-sound : (w n : ℕ) → Sound w no_blocks × Below n no_blocks
 opened-sound w n = (
   record { there = λ k l h. absurd (omega arith); back = λ g k l e. not-held e },
   λ g k l e. not-held e,

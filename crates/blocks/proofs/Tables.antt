@@ -13,17 +13,17 @@ use lib.ListN.{length}
 use lib.Pow as Pow
 use Rattle.slices.specs.Bytes.{Bytes}
 use Rattle.slices.proofs.Tests.{Split, split, same_test}
-use Rattle.words.specs.Words.{wordAt, setWord}
-use Rattle.words.proofs.Laws.{word-set-same, word-set-other, length-setWord}
+use Rattle.words.specs.Words.{word_at, set_word}
+use Rattle.words.proofs.Laws.{word-set-same, word-set-other, length-set_word}
 use Rattle.layout.specs.declared.Sizes.{Sizes}
-use Rattle.layout.specs.Sizes.{InRange, kinds, listBytes}
-use Rattle.layout.specs.Fields.{blocksAt, local_at, globalAt, blockWord}
+use Rattle.layout.specs.Sizes.{InRange, kinds, list_bytes}
+use Rattle.layout.specs.Fields.{blocks_at, local_at, global_at, block_word}
 use Rattle.layout.proofs.Places.{blocks-below, blocks_from, blocks_end, list-bytes}
-use Rattle.header.specs.Opened.{openedLists}
+use Rattle.header.specs.Opened.{opened_lists}
 use Rattle.header.proofs.Opened.{opened-zero}
-use Rattle.blocks.specs.Blocks.{Block, free, held, Blocks, noBlocks, pick, took}
-use Rattle.blocks.specs.Tables.{localWord, ownerWord, wordOwner, ownerIn, BlocksAt}
-use Rattle.blocks.specs.Answers.{blockWritten}
+use Rattle.blocks.specs.Blocks.{Block, free, held, Blocks, no_blocks, pick, took}
+use Rattle.blocks.specs.Tables.{local_word, owner_word, word_owner, owner_in, BlocksAt}
+use Rattle.blocks.specs.Answers.{block_written}
 use Rattle.blocks.proofs.Steps.{step-sound, picked, not-held, opened-sound}
 use Rattle.blocks.proofs.Pigeons.{picked-below}
 
@@ -31,29 +31,29 @@ use Rattle.blocks.proofs.Pigeons.{picked-below}
 
 -- The words of the blocks, all of them.
 abbrev pub BlockWord : Sizes → ℕ → Type 0
-BlockWord s i = (blocksAt s 0 ≤ i) × (i < blocksAt s 0 + (kinds + 1) * s.b)
+BlockWord s i = (blocks_at s 0 ≤ i) × (i < blocks_at s 0 + (kinds + 1) * s.b)
 
-first-end : (s : Sizes) → blocksAt s 0 + kinds * s.b ≡ blocksAt s kinds
-unfolding blocksAt
+first-end : (s : Sizes) → blocks_at s 0 + kinds * s.b ≡ blocks_at s kinds
+unfolding blocks_at
 first-end s = omega arith
 
 pub local-word : (s : Sizes) (k l : ℕ) → k < kinds → l < s.b → BlockWord s (local_at s k l)
-unfolding blocksAt
+unfolding blocks_at
 local-word s k l h g = (omega arith, omega (arith, blocks-below s k kinds h, first-end s))
 
-pub global-word : (s : Sizes) (g : ℕ) → g < s.b → BlockWord s (globalAt s g)
+pub global-word : (s : Sizes) (g : ℕ) → g < s.b → BlockWord s (global_at s g)
 global-word s g h = (omega (arith, first-end s), omega (arith, first-end s))
 
 -- They lie in lists.
-pub block-fits : (s : Sizes) (i n : ℕ) → listBytes s ≤ n → BlockWord s i → 8 * i + 8 ≤ n
+pub block-fits : (s : Sizes) (i n : ℕ) → list_bytes s ≤ n → BlockWord s i → 8 * i + 8 ≤ n
 block-fits s i n f h = omega (arith, h.1, first-end s, blocks_end s, list-bytes s)
 
 -- The same at the place that code computes: the first word of a table, and an index.
-pub local-inside : (s : Sizes) (k l n at : ℕ) → listBytes s ≤ n → k < kinds → l < s.b → at ≡ blocksAt s k → 8 * (at + l) + 8 ≤ n
+pub local-inside : (s : Sizes) (k l n at : ℕ) → list_bytes s ≤ n → k < kinds → l < s.b → at ≡ blocks_at s k → 8 * (at + l) + 8 ≤ n
 local-inside s k l n at f h g e = rw e (block-fits s (local_at s k l) n f (local-word s k l h g))
 
-pub global-inside : (s : Sizes) (g n at : ℕ) → listBytes s ≤ n → g < s.b → at ≡ blocksAt s kinds → 8 * (at + g) + 8 ≤ n
-global-inside s g n at f h e = rw e (block-fits s (globalAt s g) n f (global-word s g h))
+pub global-inside : (s : Sizes) (g n at : ℕ) → list_bytes s ≤ n → g < s.b → at ≡ blocks_at s kinds → 8 * (at + g) + 8 ≤ n
+global-inside s g n at f h e = rw e (block-fits s (global_at s g) n f (global-word s g h))
 
 local-apart : (s : Sizes) (j m k l : ℕ) → m < s.b → l < s.b → j ≢ k → local_at s j m ≢ local_at s k l
 local-apart s j m k l f h d e = go (split (ltb j k))
@@ -62,23 +62,23 @@ local-apart s j m k l f h d e = go (split (ltb j k))
     go (inl p) = omega (arith, blocks-below s j k (ltb-true j k p))
     go (inr p) = omega (arith, blocks-below s k j (let q : k ≤ j = ltb-false j k p in omega arith))
 
-below-global : (s : Sizes) (k l g : ℕ) → k < kinds → l < s.b → local_at s k l < globalAt s g
+below-global : (s : Sizes) (k l g : ℕ) → k < kinds → l < s.b → local_at s k l < global_at s g
 below-global s k l g h f = omega (arith, blocks-below s k kinds h)
 
 -- ---- what the words say
 
-owner-back : (o : Block) → ((k l : ℕ) → o ≡ held k l → k < kinds) → wordOwner (ownerWord o) ≡ o
+owner-back : (o : Block) → ((k l : ℕ) → o ≡ held k l → k < kinds) → word_owner (owner_word o) ≡ o
 owner-back free h = refl
 owner-back (held k l) h =
     let low : k < kinds = h k l refl in
-    let e : blockWord k l ≡ suc (k + 16 * l) = omega arith in
+    let e : block_word k l ≡ suc (k + 16 * l) = omega arith in
     let p : (k + 16 * l) % 16 ≡ k = omega arith in
     let q : (k + 16 * l) / 16 ≡ l = omega arith in
-    ap wordOwner e ∙ ap (λ (t : ℕ). held t ((k + 16 * l) / 16)) p ∙ ap (held k) q
+    ap word_owner e ∙ ap (λ (t : ℕ). held t ((k + 16 * l) / 16)) p ∙ ap (held k) q
 
-pub owner-in : (s : Sizes) (b : Blocks) (lists : Bytes) → BlocksAt s b lists → (g : ℕ) → g < s.b → ownerIn lists (blocksAt s kinds) g ≡ b.owner g
-unfolding ownerIn
-owner-in s b lists T g h = ap wordOwner (T.owners g h) ∙ owner-back (b.owner g) (λ k l e. T.kind g k l e)
+pub owner-in : (s : Sizes) (b : Blocks) (lists : Bytes) → BlocksAt s b lists → (g : ℕ) → g < s.b → owner_in lists (blocks_at s kinds) g ≡ b.owner g
+unfolding owner_in
+owner-in s b lists T g h = ap word_owner (T.owners g h) ∙ owner-back (b.owner g) (λ k l e. T.kind g k l e)
 
 -- A block from B up is free.
 pub owner-past : (s : Sizes) (b : Blocks) (lists : Bytes) → BlocksAt s b lists → (g : ℕ) → s.b ≤ g → b.owner g ≡ free
@@ -90,12 +90,12 @@ owner-past s b lists T g h = go (b.owner g) refl
 
 -- ---- the opened memory, and memory that agrees
 
-pub opened-blocks : (s : Sizes) (lists : Bytes) → ((i : ℕ) → BlockWord s i → wordAt lists i ≡ 0) → BlocksAt s noBlocks lists
+pub opened-blocks : (s : Sizes) (lists : Bytes) → ((i : ℕ) → BlockWord s i → word_at lists i ≡ 0) → BlocksAt s no_blocks lists
 opened-blocks s lists z =
     let S = opened-sound s.w s.b in
     record {
       locals = λ k l h g. z (local_at s k l) (local-word s k l h g) ∙ sym (ap (λ t. cond t (0 + 1) 0) (le-ltb (l * 2 ^ s.w) 0 (omega arith)));
-      owners = λ g h. z (globalAt s g) (global-word s g h);
+      owners = λ g h. z (global_at s g) (global-word s g h);
       sound = S.0;
       below = S.1;
       kind = λ g k l e. not-held e;
@@ -103,15 +103,15 @@ opened-blocks s lists z =
     }
 
 -- Freshly initialised memory has no block.
-pub init-blocks : (s : Sizes) (lists : Bytes) → BlocksAt s noBlocks (openedLists s lists)
+pub init-blocks : (s : Sizes) (lists : Bytes) → BlocksAt s no_blocks (opened_lists s lists)
 init-blocks s lists =
-    opened-blocks s (openedLists s lists)
-    (λ i h. opened-zero s lists i (omega (arith, blocks_from s 0, h.0)) (block-fits s i (listBytes s) (omega arith) h))
+    opened-blocks s (opened_lists s lists)
+    (λ i h. opened-zero s lists i (omega (arith, blocks_from s 0, h.0)) (block-fits s i (list_bytes s) (omega arith) h))
 
-pub kept-blocks : (s : Sizes) (b : Blocks) (x y : Bytes) → ((i : ℕ) → BlockWord s i → wordAt y i ≡ wordAt x i) → BlocksAt s b x → BlocksAt s b y
+pub kept-blocks : (s : Sizes) (b : Blocks) (x y : Bytes) → ((i : ℕ) → BlockWord s i → word_at y i ≡ word_at x i) → BlocksAt s b x → BlocksAt s b y
 kept-blocks s b x y same T = record {
   locals = λ k l h g. same (local_at s k l) (local-word s k l h g) ∙ T.locals k l h g;
-  owners = λ g h. same (globalAt s g) (global-word s g h) ∙ T.owners g h;
+  owners = λ g h. same (global_at s g) (global-word s g h) ∙ T.owners g h;
   sound = T.sound;
   below = T.below;
   kind = T.kind;
@@ -131,7 +131,7 @@ begun-same w n m d =
     (λ p. let q : m * 2 ^ w < suc n = ltb-true _ _ p in lt-ltb (m * 2 ^ w) n (omega arith))
     (λ p. let q : m * 2 ^ w < n = ltb-true _ _ p in lt-ltb (m * 2 ^ w) (suc n) (omega arith))
 
-module _ (s : Sizes) (b : Blocks) (lists : Bytes) (k g l : ℕ) (R : InRange s) (F : listBytes s ≤ length lists) (T : BlocksAt s b lists)
+module _ (s : Sizes) (b : Blocks) (lists : Bytes) (k g l : ℕ) (R : InRange s) (F : list_bytes s ≤ length lists) (T : BlocksAt s b lists)
     (H : k < kinds) (E : pick s b k ≡ some g) (L : b.next k / 2 ^ s.w ≡ l) where
   block-low : g < s.b
   block-low = (picked s b k g T.sound T.below E).1
@@ -143,14 +143,14 @@ module _ (s : Sizes) (b : Blocks) (lists : Bytes) (k g l : ℕ) (R : InRange s) 
   begun = rw (← L) (omega (arith, Pow.split (b.next k) s.w))
 
   local-step : (j m : ℕ) → j < kinds → m < s.b → Dec (k ≡ j) → Dec (l ≡ m)
-      → wordAt (setWord lists (local_at s k l) (g + 1)) (local_at s j m) ≡ localWord s.w (took s.w b k g) j m
+      → word_at (set_word lists (local_at s k l) (g + 1)) (local_at s j m) ≡ local_word s.w (took s.w b k g) j m
   local-step j m h f (yes p) (yes q) =
       let lt : l * 2 ^ s.w < suc (b.next k) = omega (arith, begun) in
       rw (← p, ← q, eq-eqb k k refl, eq-eqb (b.next k / 2 ^ s.w) l L, lt-ltb (l * 2 ^ s.w) (suc (b.next k)) lt)
       (word-set-same lists (local_at s k l) (g + 1) (block-fits s _ _ F (local-word s k l H local-low)) (omega (arith, block-low, R.b)))
   local-step j m h f (yes p) (no q) =
       let d : b.next k / 2 ^ s.w ≢ m = λ e. q (sym L ∙ e) in
-      let o : local_at s j m ≢ local_at s k l = omega (arith, ap (blocksAt s) p) in
+      let o : local_at s j m ≢ local_at s k l = omega (arith, ap (blocks_at s) p) in
       word-set-other lists (local_at s k l) (local_at s j m) (g + 1) o ∙ T.locals j m h f
       ∙ rw (← p, eq-eqb k k refl, ne_eqb (b.next k / 2 ^ s.w) m d, begun-same s.w (b.next k) m d)
   local-step j m h f (no p) q =
@@ -159,17 +159,17 @@ module _ (s : Sizes) (b : Blocks) (lists : Bytes) (k g l : ℕ) (R : InRange s) 
 
   -- Both words of the step.
   abbrev memory : Bytes
-  memory = setWord (setWord lists (local_at s k l) (g + 1)) (globalAt s g) (blockWord k l)
+  memory = set_word (set_word lists (local_at s k l) (g + 1)) (global_at s g) (block_word k l)
 
-  owner-step : (i : ℕ) → i < s.b → Dec (g ≡ i) → wordAt memory (globalAt s i) ≡ ownerWord ((took s.w b k g).owner i)
+  owner-step : (i : ℕ) → i < s.b → Dec (g ≡ i) → word_at memory (global_at s i) ≡ owner_word ((took s.w b k g).owner i)
   owner-step i f (yes q) =
-      let fit : 8 * globalAt s g + 8 ≤ length (setWord lists (local_at s k l) (g + 1)) =
-      rw length-setWord (block-fits s (globalAt s g) (length lists) F (global-word s g block-low)) in
-      rw (← q, eq-eqb g g refl, L) (word-set-same _ (globalAt s g) (blockWord k l) fit (omega (arith, H, local-low, R.b)))
+      let fit : 8 * global_at s g + 8 ≤ length (set_word lists (local_at s k l) (g + 1)) =
+      rw length-set_word (block-fits s (global_at s g) (length lists) F (global-word s g block-low)) in
+      rw (← q, eq-eqb g g refl, L) (word-set-same _ (global_at s g) (block_word k l) fit (omega (arith, H, local-low, R.b)))
   owner-step i f (no q) =
-      let o : globalAt s i ≢ globalAt s g = omega arith in
-      let a : globalAt s i ≢ local_at s k l = omega (arith, below-global s k l i H local-low) in
-      word-set-other _ (globalAt s g) (globalAt s i) (blockWord k l) o ∙ word-set-other lists (local_at s k l) (globalAt s i) (g + 1) a
+      let o : global_at s i ≢ global_at s g = omega arith in
+      let a : global_at s i ≢ local_at s k l = omega (arith, below-global s k l i H local-low) in
+      word-set-other _ (global_at s g) (global_at s i) (block_word k l) o ∙ word-set-other lists (local_at s k l) (global_at s i) (g + 1) a
       ∙ T.owners i f
       ∙ rw (ne_eqb g i q)
 
@@ -192,7 +192,7 @@ module _ (s : Sizes) (b : Blocks) (lists : Bytes) (k g l : ℕ) (R : InRange s) 
       let S = step-sound s b k g T.sound T.below E in
       record {
         locals = λ j m h f.
-            word-set-other _ (globalAt s g) (local_at s j m) (blockWord k l) (omega (arith, below-global s j m g h f))
+            word-set-other _ (global_at s g) (local_at s j m) (block_word k l) (omega (arith, below-global s j m g h f))
             ∙ local-step j m h f (ℕ_discrete k j) (ℕ_discrete l m);
         owners = λ i f. owner-step i f (ℕ_discrete g i);
         sound = S.0;
@@ -202,7 +202,7 @@ module _ (s : Sizes) (b : Blocks) (lists : Bytes) (k g l : ℕ) (R : InRange s) 
       }
 
 -- What `take_block` writes makes the memory hold the state after the step.
-pub took-blocks : (s : Sizes) (b : Blocks) (lists : Bytes) (k g : ℕ) → InRange s → listBytes s ≤ length lists → BlocksAt s b lists
-    → k < kinds → pick s b k ≡ some g → BlocksAt s (took s.w b k g) (blockWritten s lists k (b.next k) g)
-unfolding blockWritten
+pub took-blocks : (s : Sizes) (b : Blocks) (lists : Bytes) (k g : ℕ) → InRange s → list_bytes s ≤ length lists → BlocksAt s b lists
+    → k < kinds → pick s b k ≡ some g → BlocksAt s (took s.w b k g) (block_written s lists k (b.next k) g)
+unfolding block_written
 took-blocks s b lists k g R F T h e = step-blocks s b lists k g (b.next k / 2 ^ s.w) R F T h e refl

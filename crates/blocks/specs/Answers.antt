@@ -2,9 +2,9 @@
 use Rattle.std.specs.Prelude.{ℕ, zero, suc, ◌+◌, ◌/◌, ◌^◌, ◌<◌, ◌≡◌, cond, ltb}
 use Rattle.std.proofs.Math.Option.{Option, none, some}
 use Rattle.slices.specs.Bytes.{Bytes}
-use Rattle.words.specs.Words.{setWord}
+use Rattle.words.specs.Words.{set_word}
 use Rattle.layout.specs.declared.Sizes.{Sizes}
-use Rattle.layout.specs.Fields.{local_at, globalAt, blockWord}
+use Rattle.layout.specs.Fields.{local_at, global_at, block_word}
 use Rattle.blocks.specs.declared.Allocated.{Allocated}
 use Rattle.blocks.specs.declared.Allocated.TheVariants as A
 use Rattle.blocks.specs.declared.Held.{Held}
@@ -29,12 +29,12 @@ pub record Allocates (s : Sizes) (lists : Bytes) (k n : ℕ) (r : Allocated) : T
   pub right : (b : Blocks) → BlocksAt s b lists → b.next k ≡ n → r ≡ allocated (pick s b k)
 
 -- The block that a local block's word names.
-unfoldable pub heldBy : ℕ → ℕ → Held
-heldBy b zero = H.Bad
-heldBy b (suc g) = cond (ltb g b) (H.In g) H.Bad
+unfoldable pub held_by : ℕ → ℕ → Held
+held_by b zero = H.Bad
+held_by b (suc g) = cond (ltb g b) (H.In g) H.Bad
 
 -- ---- take_block: the block g for the kind k's local number n
 
-unfoldable pub blockWritten : Sizes → Bytes → ℕ → ℕ → ℕ → Bytes
-blockWritten s lists k n g =
-    setWord (setWord lists (local_at s k (n / 2 ^ s.w)) (g + 1)) (globalAt s g) (blockWord k (n / 2 ^ s.w))
+unfoldable pub block_written : Sizes → Bytes → ℕ → ℕ → ℕ → Bytes
+block_written s lists k n g =
+    set_word (set_word lists (local_at s k (n / 2 ^ s.w)) (g + 1)) (global_at s g) (block_word k (n / 2 ^ s.w))

@@ -15,17 +15,17 @@ pub record Blocks : Type 0 where
   pub block_of : ℕ → ℕ → ℕ
   pub next : ℕ → ℕ
 
-abbrev pub noBlocks : Blocks
-noBlocks = record { owner = λ g. free; block_of = λ k l. zero; next = λ k. zero }
+abbrev pub no_blocks : Blocks
+no_blocks = record { owner = λ g. free; block_of = λ k l. zero; next = λ k. zero }
 
-abbrev pub ifFree : Block → ℕ → Option ℕ → Option ℕ
-ifFree free g o = some g
-ifFree (held k l) g o = o
+abbrev pub if_free : Block → ℕ → Option ℕ → Option ℕ
+if_free free g o = some g
+if_free (held k l) g o = o
 
 -- The first free block of the n from g up.
 abbrev pub search : (ℕ → Block) → ℕ → ℕ → Option ℕ
 search t g zero = none
-search t g (suc n) = ifFree (t g) g (search t (suc g) n)
+search t g (suc n) = if_free (t g) g (search t (suc g) n)
 
 -- Where the search for a local block of the kind k starts. Local block 0: from block 0. Local block l + 1: from g + l, where g holds local block l.
 abbrev pub start : Blocks → ℕ → ℕ → ℕ
@@ -57,14 +57,14 @@ newest w b k g = g * 2 ^ w + b.next k % 2 ^ w
 
 -- ---- steps for kinds in order, newest first
 
-abbrev pub tookPicked : ℕ → Blocks → ℕ → Option ℕ → Blocks
-tookPicked w b k none = b
-tookPicked w b k (some g) = took w b k g
+abbrev pub took_picked : ℕ → Blocks → ℕ → Option ℕ → Blocks
+took_picked w b k none = b
+took_picked w b k (some g) = took w b k g
 
-abbrev pub blocksAfter : Sizes → Blocks → List ℕ → Blocks
-blocksAfter s b [] = b
-blocksAfter s b (k ∷ ks) = tookPicked s.w (blocksAfter s b ks) k (pick s (blocksAfter s b ks) k)
+abbrev pub blocks_after : Sizes → Blocks → List ℕ → Blocks
+blocks_after s b [] = b
+blocks_after s b (k ∷ ks) = took_picked s.w (blocks_after s b ks) k (pick s (blocks_after s b ks) k)
 
-abbrev pub numberPicked : ℕ → Blocks → ℕ → Option ℕ → Option ℕ
-numberPicked w b k none = none
-numberPicked w b k (some g) = some (newest w b k g)
+abbrev pub number_picked : ℕ → Blocks → ℕ → Option ℕ → Option ℕ
+number_picked w b k none = none
+number_picked w b k (some g) = some (newest w b k g)

@@ -3,12 +3,12 @@
 #![tactic(auto)]
 
 ghost use Rattle.std.specs.Prelude.{◌≡◌, ◌-◌, ◌/◌, ◌^◌, ◌≤◌, ◌<◌, length};
-ghost use Rattle.words.specs.Words.{wordAt};
-ghost use Rattle.layout.specs.Sizes.{InRange, kinds, listBytes};
-ghost use Rattle.layout.specs.Fields.{blocksAt, local_at};
+ghost use Rattle.words.specs.Words.{word_at};
+ghost use Rattle.layout.specs.Sizes.{InRange, kinds, list_bytes};
+ghost use Rattle.layout.specs.Fields.{blocks_at, local_at};
 ghost use Rattle.blocks.specs.Blocks.{search};
-ghost use Rattle.blocks.specs.Tables.{ownerIn};
-ghost use Rattle.blocks.specs.Answers.{allocated, Allocates, heldBy, blockWritten};
+ghost use Rattle.blocks.specs.Tables.{owner_in};
+ghost use Rattle.blocks.specs.Answers.{allocated, Allocates, held_by, block_written};
 
 use layout::{KINDS, OWNERS, Sizes};
 
@@ -35,8 +35,8 @@ pub enum Allocated {
 
 // The first free block, from the block `from` up.
 fn first_free(lists: &[u8], s: Sizes, from: usize) -> Allocated
-    requires { InRange s × (listBytes s ≤ length lists.now) }
-    ensures { result ≡ allocated (search (ownerIn lists.now (blocksAt s kinds)) from (s.b - from)) }
+    requires { InRange s × (list_bytes s ≤ length lists.now) }
+    ensures { result ≡ allocated (search (owner_in lists.now (blocks_at s kinds)) from (s.b - from)) }
 {
     let b = s.b;
     let at = layout::blocks_at(s, KINDS);
@@ -59,8 +59,8 @@ pub enum Held {
 
 // The global block that holds the kind k's local block l.
 pub fn held_in(lists: &[u8], s: Sizes, k: usize, l: usize) -> Held
-    requires { InRange s × (listBytes s ≤ length lists.now) × (k < kinds) × (l < s.b) }
-    ensures { result ≡ heldBy s.b (wordAt lists.now (local_at s k l)) }
+    requires { InRange s × (list_bytes s ≤ length lists.now) × (k < kinds) × (l < s.b) }
+    ensures { result ≡ held_by s.b (word_at lists.now (local_at s k l)) }
 {
     let x = words::word_at(lists, layout::blocks_at(s, k) + l);
     if x == 0 {
@@ -75,7 +75,7 @@ pub fn held_in(lists: &[u8], s: Sizes, k: usize, l: usize) -> Held
 
 // The block of the kind k's next local number.
 pub fn allocate_block(lists: &[u8], s: Sizes, k: usize, local: LocalId) -> Allocated
-    requires { InRange s × (listBytes s ≤ length lists.now) × (k < kinds) }
+    requires { InRange s × (list_bytes s ≤ length lists.now) × (k < kinds) }
     ensures { Allocates s lists.now k local.0 result }
 {
     let n = local.0;
@@ -103,8 +103,8 @@ pub fn allocate_block(lists: &[u8], s: Sizes, k: usize, local: LocalId) -> Alloc
 
 // Writes that the kind k's local number is in the block g.
 pub fn take_block(lists: &mut [u8], s: Sizes, k: usize, local: LocalId, g: usize)
-    requires { InRange s × (listBytes s ≤ length lists.old) × (k < kinds) × (local.0 / 2 ^ s.w < s.b) × (g < s.b) }
-    ensures { lists.new ≡ blockWritten s lists.old k local.0 g }
+    requires { InRange s × (list_bytes s ≤ length lists.old) × (k < kinds) × (local.0 / 2 ^ s.w < s.b) × (g < s.b) }
+    ensures { lists.new ≡ block_written s lists.old k local.0 g }
 {
     let n = local.0;
     let l = n / block_size(s);

@@ -10,11 +10,11 @@ use lib.Dec.{ltb}
 use borrow.Author.Tests.{ltb-true, leb-true, leb-false, lt-ltb, le-ltb, le-leb, eq-eqb, ne_eqb}
 use Rattle.slices.proofs.Tests.{Split, split, and_left, and_right}
 use Rattle.layout.specs.declared.Sizes.{Sizes}
-use Rattle.layout.specs.Sizes.{dictionaries, pageSize}
-use Rattle.bytes_buffer.specs.Pages.{Space, noSpace, fits, grown, grownAt, sum, allPages}
+use Rattle.layout.specs.Sizes.{dictionaries, page_size}
+use Rattle.bytes_buffer.specs.Pages.{Space, no_space, fits, grown, grown_at, sum, all_pages}
 
-pub size_is : (s : Sizes) → pageSize s ≡ 2 ^ s.p
-unfolding pageSize
+pub size_is : (s : Sizes) → page_size s ≡ 2 ^ s.p
+unfolding page_size
 size_is s = refl
 
 -- ---- does it fit?
@@ -54,9 +54,9 @@ unfolding grown
 grown-unfit p x n e = (rw e, rw e)
 
 -- A dictionary without a page takes one, even for an empty entry.
-pub first-takes : (p d n : ℕ) → grown p (noSpace d) n ≡ record { taken = 1; used = n }
+pub first-takes : (p d n : ℕ) → grown p (no_space d) n ≡ record { taken = 1; used = n }
 unfolding grown
-first-takes p d n = rw (pageless-unfit p (noSpace d) n refl)
+first-takes p d n = rw (pageless-unfit p (no_space d) n refl)
 
 pub grown-taken : (p : ℕ) (x : Space) (n : ℕ) → 0 < (grown p x n).taken
 grown-taken p x n = go (split (fits p x n))
@@ -72,12 +72,12 @@ grown-used p x n h = go (split (fits p x n))
     go (inl e) = omega (arith, grown-fit p x n e, fits-facts p x n e)
     go (inr e) = omega (arith, grown-unfit p x n e)
 
-pub grown-same : (s : Sizes) (sp : ℕ → Space) (d n : ℕ) → grownAt s sp d n d ≡ grown s.p (sp d) n
-unfolding grownAt
+pub grown-same : (s : Sizes) (sp : ℕ → Space) (d n : ℕ) → grown_at s sp d n d ≡ grown s.p (sp d) n
+unfolding grown_at
 grown-same s sp d n = rw (eq-eqb d d refl)
 
-pub grown-other : (s : Sizes) (sp : ℕ → Space) (d n e : ℕ) → e ≢ d → grownAt s sp d n e ≡ sp e
-unfolding grownAt
+pub grown-other : (s : Sizes) (sp : ℕ → Space) (d n e : ℕ) → e ≢ d → grown_at s sp d n e ≡ sp e
+unfolding grown_at
 grown-other s sp d n e h = rw (ne_eqb d e (λ q. h (omega arith)))
 
 -- ---- all pages
@@ -107,26 +107,26 @@ sum-part f d (suc n) l = go (ℕ_discrete n d) (sum-part f d n)
     go (yes e) ih = omega (arith, ap f e)
     go (no q) ih = omega (arith, ih (omega arith))
 
-pub none-taken : allPages noSpace ≡ zero
-unfolding allPages
+pub none-taken : all_pages no_space ≡ zero
+unfolding all_pages
 none-taken = refl
 
-pub taken-most : (sp : ℕ → Space) (d : ℕ) → d < dictionaries → (sp d).taken ≤ allPages sp
-unfolding allPages
+pub taken-most : (sp : ℕ → Space) (d : ℕ) → d < dictionaries → (sp d).taken ≤ all_pages sp
+unfolding all_pages
 taken-most sp d l = sum-part (λ e. (sp e).taken) d dictionaries l
 
-all_grown : (s : Sizes) (sp : ℕ → Space) (d n : ℕ) → d < dictionaries → allPages (grownAt s sp d n) + (sp d).taken ≡ allPages sp + (grown s.p (sp d) n).taken
-unfolding allPages
+all_grown : (s : Sizes) (sp : ℕ → Space) (d n : ℕ) → d < dictionaries → all_pages (grown_at s sp d n) + (sp d).taken ≡ all_pages sp + (grown s.p (sp d) n).taken
+unfolding all_pages
 all_grown s sp d n l =
     omega (
       arith,
-      sum-change (λ e. (grownAt s sp d n e).taken) (λ e. (sp e).taken) d dictionaries l (λ e h. ap (λ (x : Space). x.taken) (grown-other s sp d n e h)),
+      sum-change (λ e. (grown_at s sp d n e).taken) (λ e. (sp e).taken) d dictionaries l (λ e h. ap (λ (x : Space). x.taken) (grown-other s sp d n e h)),
       ap (λ (x : Space). x.taken) (grown-same s sp d n),
     )
 
 -- An entry that fits takes no page, every other one page.
-pub pages-fit : (s : Sizes) (sp : ℕ → Space) (d n : ℕ) → d < dictionaries → fits s.p (sp d) n ≡ true → allPages (grownAt s sp d n) ≡ allPages sp
+pub pages-fit : (s : Sizes) (sp : ℕ → Space) (d n : ℕ) → d < dictionaries → fits s.p (sp d) n ≡ true → all_pages (grown_at s sp d n) ≡ all_pages sp
 pages-fit s sp d n l e = omega (arith, all_grown s sp d n l, grown-fit s.p (sp d) n e)
 
-pub pages-unfit : (s : Sizes) (sp : ℕ → Space) (d n : ℕ) → d < dictionaries → fits s.p (sp d) n ≡ false → allPages (grownAt s sp d n) ≡ suc (allPages sp)
+pub pages-unfit : (s : Sizes) (sp : ℕ → Space) (d n : ℕ) → d < dictionaries → fits s.p (sp d) n ≡ false → all_pages (grown_at s sp d n) ≡ suc (all_pages sp)
 pages-unfit s sp d n l e = omega (arith, all_grown s sp d n l, grown-unfit s.p (sp d) n e)

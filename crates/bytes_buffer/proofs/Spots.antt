@@ -7,15 +7,15 @@ use lib.Dec.{leb, ltb}
 use borrow.Author.Tests.{ltb-true, ltb-false, lt-ltb, le-ltb, le-leb, lt-leb, leb-true, eq-eqb, ne_eqb}
 use Rattle.slices.proofs.Tests.{Split, split}
 use Rattle.layout.specs.declared.Sizes.{Sizes}
-use Rattle.layout.specs.Sizes.{pageSize}
-use Rattle.layout.specs.Fields.{usedOf}
+use Rattle.layout.specs.Sizes.{page_size}
+use Rattle.layout.specs.Fields.{used_of}
 use Rattle.bytes_buffer.specs.declared.Spot.TheVariants.{Current, Next, NoPage, Bad}
 use Rattle.bytes_buffer.specs.declared.Lowest.TheVariants as L
-use Rattle.bytes_buffer.specs.Spots.{lowestOf, next_of, spot_of, InPages}
+use Rattle.bytes_buffer.specs.Spots.{lowest_of, next_of, spot_of, InPages}
 
 -- The answer that names a page is the word itself, which is n at the most.
-pub lowest-page : (s : Sizes) (w u : ℕ) → lowestOf s w ≡ L.Page u → (u ≡ w) × (u ≤ s.n)
-unfolding lowestOf
+pub lowest-page : (s : Sizes) (w u : ℕ) → lowest_of s w ≡ L.Page u → (u ≡ w) × (u ≤ s.n)
+unfolding lowest_of
 lowest-page s w u e = go (split (leb w s.n))
   where
     go : Split (leb w s.n) → (u ≡ w) × (u ≤ s.n)
@@ -25,8 +25,8 @@ lowest-page s w u e = go (split (leb w s.n))
         (r, omega (arith, leb-true w s.n p))
     go (inr p) = let q : L.Bad ≡ L.Page u = rw p at e in let z : ◌≡◌ {A = ℕ} 0 1 = cc in absurd (omega arith)
 
-pub lowest-is : (s : Sizes) (w : ℕ) → w ≤ s.n → lowestOf s w ≡ L.Page w
-unfolding lowestOf
+pub lowest-is : (s : Sizes) (w : ℕ) → w ≤ s.n → lowest_of s w ≡ L.Page w
+unfolding lowest_of
 lowest-is s w h = rw (le-leb w s.n h)
 
 -- ---- one more page
@@ -58,14 +58,14 @@ module _ (s : Sizes) (c w u n : ℕ) where
   unfolding spot_of
   spot-foreign h = rw (ne_eqb c 0 (omega arith), lt-ltb s.n c h)
 
-  pub spot-overfull : c ≢ 0 → c ≤ s.n → pageSize s < usedOf w → spot_of s c w u n ≡ Bad
+  pub spot-overfull : c ≢ 0 → c ≤ s.n → page_size s < used_of w → spot_of s c w u n ≡ Bad
   unfolding spot_of
-  spot-overfull z h l = rw (ne_eqb c 0 z, le-ltb s.n c h, lt-ltb (pageSize s) (usedOf w) l)
+  spot-overfull z h l = rw (ne_eqb c 0 z, le-ltb s.n c h, lt-ltb (page_size s) (used_of w) l)
 
-  pub spot-current : c ≢ 0 → c ≤ s.n → usedOf w + n ≤ pageSize s → spot_of s c w u n ≡ Current (c - 1) (usedOf w)
+  pub spot-current : c ≢ 0 → c ≤ s.n → used_of w + n ≤ page_size s → spot_of s c w u n ≡ Current (c - 1) (used_of w)
   unfolding spot_of
-  spot-current z h l = rw (ne_eqb c 0 z, le-ltb s.n c h, le-ltb (pageSize s) (usedOf w) (omega arith), le-leb (usedOf w + n) (pageSize s) l)
+  spot-current z h l = rw (ne_eqb c 0 z, le-ltb s.n c h, le-ltb (page_size s) (used_of w) (omega arith), le-leb (used_of w + n) (page_size s) l)
 
-  pub spot-next : c ≢ 0 → c ≤ s.n → usedOf w ≤ pageSize s → pageSize s < usedOf w + n → spot_of s c w u n ≡ next_of s u
+  pub spot-next : c ≢ 0 → c ≤ s.n → used_of w ≤ page_size s → page_size s < used_of w + n → spot_of s c w u n ≡ next_of s u
   unfolding spot_of
-  spot-next z h k l = rw (ne_eqb c 0 z, le-ltb s.n c h, le-ltb (pageSize s) (usedOf w) k, lt-leb (usedOf w + n) (pageSize s) l)
+  spot-next z h k l = rw (ne_eqb c 0 z, le-ltb s.n c h, le-ltb (page_size s) (used_of w) k, lt-leb (used_of w + n) (page_size s) l)

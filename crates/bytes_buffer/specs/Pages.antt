@@ -9,8 +9,8 @@ pub record Space : Type 0 where
   pub taken : ℕ
   pub used : ℕ
 
-abbrev pub noSpace : ℕ → Space
-noSpace d = record { taken = zero; used = zero }
+abbrev pub no_space : ℕ → Space
+no_space d = record { taken = zero; used = zero }
 
 -- Whether an entry of n bytes fits the last page, which has 2^p bytes. Without a page none fits; exactly full is allowed.
 unfoldable pub fits : ℕ → Space → ℕ → Bool
@@ -21,13 +21,13 @@ unfoldable pub grown : ℕ → Space → ℕ → Space
 grown p x n = cond (fits p x n) (record { taken = x.taken; used = x.used + n }) (record { taken = suc x.taken; used = n })
 
 -- All spaces after an entry of n bytes in dictionary d.
-unfoldable pub grownAt : Sizes → (ℕ → Space) → ℕ → ℕ → ℕ → Space
-grownAt s sp d n = upd sp d (grown s.p (sp d) n)
+unfoldable pub grown_at : Sizes → (ℕ → Space) → ℕ → ℕ → ℕ → Space
+grown_at s sp d n = upd sp d (grown s.p (sp d) n)
 
 abbrev pub sum : (ℕ → ℕ) → ℕ → ℕ
 sum f zero = zero
 sum f (suc n) = sum f n + f n
 
 -- How many pages all dictionaries together have taken.
-unfoldable pub allPages : (ℕ → Space) → ℕ
-allPages sp = sum (λ d. (sp d).taken) dictionaries
+unfoldable pub all_pages : (ℕ → Space) → ℕ
+all_pages sp = sum (λ d. (sp d).taken) dictionaries

@@ -2,10 +2,10 @@
 #![tactic(auto)]
 
 ghost use Rattle.std.specs.Prelude.{◌≡◌, ◌+◌, ◌^◌, ◌≤◌, ◌<◌, length};
-ghost use Rattle.words.specs.Words.{wordAt};
-ghost use Rattle.layout.specs.Sizes.{InRange, dictionaries, pageSize, listBytes};
-ghost use Rattle.layout.specs.Fields.{untakenAt};
-ghost use Rattle.bytes_buffer.specs.Spots.{lowestOf, next_of, spotIn, InPages, untakenAfter};
+ghost use Rattle.words.specs.Words.{word_at};
+ghost use Rattle.layout.specs.Sizes.{InRange, dictionaries, page_size, list_bytes};
+ghost use Rattle.layout.specs.Fields.{untaken_at};
+ghost use Rattle.bytes_buffer.specs.Spots.{lowest_of, next_of, spot_in, InPages, untaken_after};
 
 use layout::{CURRENT, OFFSETS, OWNERS, PAGES, STRIDE, Sizes, UNTAKEN};
 
@@ -27,8 +27,8 @@ pub enum Lowest {
 
 // The lowest untaken page; n if none is left.
 pub fn untaken(lists: &[u8], s: Sizes) -> Lowest
-    requires { InRange s × (listBytes s ≤ length lists.now) }
-    ensures { result ≡ lowestOf s (wordAt lists.now untakenAt) }
+    requires { InRange s × (list_bytes s ≤ length lists.now) }
+    ensures { result ≡ lowest_of s (word_at lists.now untaken_at) }
 {
     let w = words::word_at(lists, UNTAKEN);
     let n = s.n;
@@ -51,9 +51,9 @@ fn next(s: Sizes, untaken: usize) -> Spot
 
 // Where an entry of len bytes goes in dictionary d. It only reads: one add may plan two entries, the second with the next untaken page.
 pub fn plan(lists: &[u8], s: Sizes, d: usize, untaken: usize, len: usize) -> Spot
-    requires in_range { InRange s × (listBytes s ≤ length lists.now) }
-    requires d_lt_dictionaries { (d < dictionaries) × (len ≤ pageSize s) }
-    ensures { (result ≡ spotIn s (wordAt lists.now) d untaken len) × InPages s untaken len result }
+    requires in_range { InRange s × (list_bytes s ≤ length lists.now) }
+    requires d_lt_dictionaries { (d < dictionaries) × (len ≤ page_size s) }
+    ensures { (result ≡ spot_in s (word_at lists.now) d untaken len) × InPages s untaken len result }
 {
     let current = words::word_at(lists, CURRENT + STRIDE * d);
     if current == 0 {
@@ -78,7 +78,7 @@ pub fn plan(lists: &[u8], s: Sizes, d: usize, untaken: usize, len: usize) -> Spo
 // The lowest untaken page after an entry at the spot. The plan of a second entry starts from it.
 pub fn untaken_after(untaken: usize, spot: Spot) -> usize
     requires { untaken + 1 < 2 ^ 64 }
-    ensures { result ≡ untakenAfter untaken spot }
+    ensures { result ≡ untaken_after untaken spot }
 {
     match spot {
         Spot::Current { page: _, offset: _ } => untaken,

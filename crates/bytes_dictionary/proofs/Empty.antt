@@ -5,28 +5,28 @@ use mathlib.Core.Option.{none, some}
 use native.Mathlib.Omega.{arith}
 use lib.ListN.{length, get_or}
 use Rattle.slices.specs.Bytes.{Bytes}
-use Rattle.words.specs.Words.{leAt, wordAt, quadAt}
+use Rattle.words.specs.Words.{le_at, word_at, quad_at}
 use Rattle.words.proofs.Laws.{quad-zero}
 use Rattle.layout.specs.declared.Sizes.{Sizes}
-use Rattle.layout.specs.Sizes.{InRange, pageBytes, listBytes}
-use Rattle.layout.specs.Fields.{untakenAt, countAt, entry_at, placeAt}
+use Rattle.layout.specs.Sizes.{InRange, page_bytes, list_bytes}
+use Rattle.layout.specs.Fields.{untaken_at, count_at, entry_at, place_at}
 use Rattle.layout.proofs.Places.{dict-from, list-bytes}
 use Rattle.header.specs.Header.{HeaderOf}
-use Rattle.header.specs.Opened.{openedLists}
+use Rattle.header.specs.Opened.{opened_lists}
 use Rattle.header.proofs.Opened.{opened-zero, opened-header}
 use Rattle.bytes_index.specs.Entries.{Holds}
 use Rattle.bytes_index.proofs.Filled.{filled_none}
 use Rattle.bytes_buffer.proofs.Tables.{opened-pages}
-use Rattle.bytes_dictionary.specs.Store.{emptyStore, StoreAt}
+use Rattle.bytes_dictionary.specs.Store.{empty_store, StoreAt}
 use Rattle.bytes_entry.proofs.Inside.{words-in}
 
 -- Every word of `lists` but the format and the sizes is 0.
 abbrev pub Zeroed : Sizes → Bytes → Type 0
-Zeroed s lists = (j : ℕ) → untakenAt ≤ j → 8 * j + 8 ≤ listBytes s → wordAt lists j ≡ 0
+Zeroed s lists = (j : ℕ) → untaken_at ≤ j → 8 * j + 8 ≤ list_bytes s → word_at lists j ≡ 0
 
 -- Each byte of a number that is 0 is 0.
-le-zeros : (n : ℕ) (s : Bytes) (b : ℕ) → leAt n s b ≡ 0 → (k : ℕ) → k < n → get_or s (b + k) 0 ≡ 0
-unfolding leAt
+le-zeros : (n : ℕ) (s : Bytes) (b : ℕ) → le_at n s b ≡ 0 → (k : ℕ) → k < n → get_or s (b + k) 0 ≡ 0
+unfolding le_at
 le-zeros zero s b z k l = absurd (omega arith)
 le-zeros (suc n) s b z zero l = let e : b + zero ≡ b = omega arith in rw e (omega arith)
 le-zeros (suc n) s b z (suc k) l =
@@ -34,8 +34,8 @@ le-zeros (suc n) s b z (suc k) l =
     rw e (le-zeros n s (suc b) (omega arith) k (omega arith))
 
 -- Both quads of a word that is 0 are 0.
-quad-in-zero : (s : Bytes) (q : ℕ) → wordAt s (q / 2) ≡ 0 → quadAt s q ≡ 0
-unfolding wordAt
+quad-in-zero : (s : Bytes) (q : ℕ) → word_at s (q / 2) ≡ 0 → quad_at s q ≡ 0
+unfolding word_at
 quad-in-zero s q z =
     quad-zero s q
     (λ k h.
@@ -56,18 +56,18 @@ holds-none s B W Q z =
     no : {A : Type 0} {key : Bytes} → none ≡ some key → A
     no u = let q : ◌≡◌ {A = ℕ} 0 1 = cc in absurd (omega arith)
 
-pub store-empty : (s : Sizes) (pages lists : Bytes) → InRange s → HeaderOf s (length pages) lists → Zeroed s lists → StoreAt s emptyStore pages lists
+pub store-empty : (s : Sizes) (pages lists : Bytes) → InRange s → HeaderOf s (length pages) lists → Zeroed s lists → StoreAt s empty_store pages lists
 store-empty s pages lists r h z =
     record {
       header = h;
-      paged = opened-pages s (wordAt lists) (λ j l h. z j l (omega (arith, list-bytes s)));
+      paged = opened-pages s (word_at lists) (λ j l h. z j l (omega (arith, list-bytes s)));
       dict = λ d dl.
           let w = (words-in s d r dl).0 in
           let b = dict-from s d in
           record {
-            holds = holds-none s (λ a. get_or pages a 0) (λ i. wordAt lists (entry_at s d i)) (λ j. quadAt lists (placeAt s d j))
-                (λ j l. quad-in-zero lists (placeAt s d j) (z (placeAt s d j / 2) (omega (arith, b)) (omega (arith, w))));
-            counted = z (countAt d) (omega arith) (omega (arith, list-bytes s));
+            holds = holds-none s (λ a. get_or pages a 0) (λ i. word_at lists (entry_at s d i)) (λ j. quad_at lists (place_at s d j))
+                (λ j l. quad-in-zero lists (place_at s d j) (z (place_at s d j / 2) (omega (arith, b)) (omega (arith, w))));
+            counted = z (count_at d) (omega arith) (omega (arith, list-bytes s));
             most = omega arith;
             in_use = λ i l. absurd (omega arith);
             past = λ i l. refl;
@@ -80,6 +80,6 @@ store-empty s pages lists r h z =
     }
 
 -- Freshly initialised memory has no entry.
-pub init-store : (s : Sizes) (pages lists : Bytes) → InRange s → pageBytes s ≤ length pages → listBytes s ≤ length lists
-    → StoreAt s emptyStore pages (openedLists s lists)
-init-store s pages lists r f g = store-empty s pages (openedLists s lists) r (opened-header s (length pages) lists r g f) (λ j l h. opened-zero s lists j l h)
+pub init-store : (s : Sizes) (pages lists : Bytes) → InRange s → page_bytes s ≤ length pages → list_bytes s ≤ length lists
+    → StoreAt s empty_store pages (opened_lists s lists)
+init-store s pages lists r f g = store-empty s pages (opened_lists s lists) r (opened-header s (length pages) lists r g f) (λ j l h. opened-zero s lists j l h)

@@ -5,9 +5,9 @@ use mathlib.Core.Option.{some}
 use native.Mathlib.Omega.{arith}
 use lib.ListN.{length}
 use Rattle.slices.specs.Bytes.{Bytes}
-use Rattle.fnv.specs.Fnv.{fnvOf}
+use Rattle.fnv.specs.Fnv.{fnv_of}
 use Rattle.layout.specs.declared.Sizes.{Sizes}
-use Rattle.bytes_index.specs.Place.{placeAfter}
+use Rattle.bytes_index.specs.Place.{place_after}
 use Rattle.bytes_index.specs.Entries.{Entries, address_of, Addresses, Holds}
 use Rattle.bytes_index.proofs.Place.{place-lt}
 use Rattle.bytes_index.proofs.Filled.{filled-agree}
@@ -32,8 +32,8 @@ holds_agree s B W Q B' W' Q' es we qe be H =
       names = λ j l. rw (qe j l) (H.names j l);
       met = λ i key u.
           let M = H.met i key u in
-          let at : (k : ℕ) → Q' (placeAfter (2 * s.e) (fnvOf key) k) ≡ Q (placeAfter (2 * s.e) (fnvOf key) k) =
-          λ k. qe (placeAfter (2 * s.e) (fnvOf key) k) (place-lt (2 * s.e) (fnvOf key) k (omega (arith, M.near))) in
+          let at : (k : ℕ) → Q' (place_after (2 * s.e) (fnv_of key) k) ≡ Q (place_after (2 * s.e) (fnv_of key) k) =
+          λ k. qe (place_after (2 * s.e) (fnv_of key) k) (place-lt (2 * s.e) (fnv_of key) k (omega (arith, M.near))) in
           record { step = M.step; near = M.near; there = at M.step ∙ M.there; full = λ k g. rw (at k) (M.full k g) };
       count = filled-agree Q Q' (2 * s.e) qe ∙ H.count;
       apart = H.apart;

@@ -7,10 +7,10 @@ use native.Mathlib.Omega.{arith}
 use native.Mathlib.Decide.{ℕ_discrete}
 use lib.ListN.{length}
 use Rattle.slices.specs.Bytes.{Bytes}
-use Rattle.fnv.specs.Fnv.{fnvOf}
+use Rattle.fnv.specs.Fnv.{fnv_of}
 use Rattle.layout.specs.declared.Sizes.{Sizes}
-use Rattle.layout.specs.Fields.{placeWord}
-use Rattle.bytes_index.specs.Place.{placeAfter}
+use Rattle.layout.specs.Fields.{place_word}
+use Rattle.bytes_index.specs.Place.{place_after}
 use Rattle.bytes_index.specs.Entries.{Entries, used, Addresses, Met, Holds, Misses}
 use Rattle.bytes_index.proofs.Place.{place-lt}
 use Rattle.bytes_index.proofs.Filled.{filled_put}
@@ -21,7 +21,7 @@ use Rattle.bytes_dictionary.proofs.Frame.{SameBytes, addresses-agree}
 module _ (s : Sizes) (B W Q B' W' Q' : ℕ → ℕ) (es : Entries) (n : ℕ) (key : Bytes) (j : ℕ) where
   pub holds_more : es n ≡ none → n < s.e
       → Addresses s B' (W' n) key
-      → Q' j ≡ placeWord n (fnvOf key)
+      → Q' j ≡ place_word n (fnv_of key)
       → ((i : ℕ) (k : Bytes) → es i ≡ some k → W' i ≡ W i)
       → ((k : ℕ) → k < 2 * s.e → k ≢ j → Q' k ≡ Q k)
       → ((i : ℕ) (k : Bytes) → es i ≡ some k → SameBytes s B B' (W i) (length k))
@@ -35,8 +35,8 @@ module _ (s : Sizes) (B W Q B' W' Q' : ℕ → ℕ) (es : Entries) (n : ℕ) (ke
             (more-cases es n key i k u);
         names = λ k l. named k l (ℕ_discrete k j);
         met = λ i k u.
-            ⊎_elim (λ h. subst (λ (x : ℕ). Met Q' (2 * s.e) (fnvOf k) x) (sym h.0) (subst (λ (x : Bytes). Met Q' (2 * s.e) (fnvOf x) n) h.1 added))
-            (λ h. moved (fnvOf k) i (H.met i k h.1))
+            ⊎_elim (λ h. subst (λ (x : ℕ). Met Q' (2 * s.e) (fnv_of k) x) (sym h.0) (subst (λ (x : Bytes). Met Q' (2 * s.e) (fnv_of x) n) h.1 added))
+            (λ h. moved (fnv_of k) i (H.met i k h.1))
             (more-cases es n key i k u);
         count = omega (
           arith,
@@ -56,13 +56,13 @@ module _ (s : Sizes) (B W Q B' W' Q' : ℕ → ℕ) (es : Entries) (n : ℕ) (ke
       free = M.free.empty
 
       inside : j < 2 * s.e
-      inside = rw M.free.here at (place-lt (2 * s.e) (fnvOf key) M.free.step (omega arith))
+      inside = rw M.free.here at (place-lt (2 * s.e) (fnv_of key) M.free.step (omega arith))
 
       -- what was not empty stays
-      stays : (h k : ℕ) → Q (placeAfter (2 * s.e) h k) ≢ 0 → Q' (placeAfter (2 * s.e) h k) ≡ Q (placeAfter (2 * s.e) h k)
-      stays h k f = qe (placeAfter (2 * s.e) h k) (place-lt (2 * s.e) h k (omega arith)) (λ q. f (ap Q q ∙ free))
+      stays : (h k : ℕ) → Q (place_after (2 * s.e) h k) ≢ 0 → Q' (place_after (2 * s.e) h k) ≡ Q (place_after (2 * s.e) h k)
+      stays h k f = qe (place_after (2 * s.e) h k) (place-lt (2 * s.e) h k (omega arith)) (λ q. f (ap Q q ∙ free))
 
-      named : (k : ℕ) → k < 2 * s.e → Dec (k ≡ j) → Q' k ≢ 0 → (i : ℕ) × (x : Bytes) × (upd es n (some key) i ≡ some x) × (Q' k ≡ placeWord i (fnvOf x))
+      named : (k : ℕ) → k < 2 * s.e → Dec (k ≡ j) → Q' k ≢ 0 → (i : ℕ) × (x : Bytes) × (upd es n (some key) i ≡ some x) × (Q' k ≡ place_word i (fnv_of x))
       named k l (yes q) = λ f. (n, key, upd_same es n (some key), ap Q' q ∙ put)
       named k l (no q) = rw (qe k l q) (λ f. let o = H.names k l f in (o.0, o.1, more-old es n key z o.0 o.1 o.2, o.3))
 
@@ -75,12 +75,12 @@ module _ (s : Sizes) (B W Q B' W' Q' : ℕ → ℕ) (es : Entries) (n : ℕ) (ke
             full = λ k g. rw (stays h k (N.full k g)) (N.full k g);
           }
 
-      added : Met Q' (2 * s.e) (fnvOf key) n
+      added : Met Q' (2 * s.e) (fnv_of key) n
       added =
           let F = M.free in
           record {
             step = F.step;
             near = F.near;
             there = ap Q' F.here ∙ put;
-            full = λ k g. rw (stays (fnvOf key) k (F.full k g)) (F.full k g);
+            full = λ k g. rw (stays (fnv_of key) k (F.full k g)) (F.full k g);
           }

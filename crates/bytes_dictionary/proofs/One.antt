@@ -6,7 +6,7 @@ use native.Mathlib.Omega.{arith}
 use native.Mathlib.Decide.{dec_lt}
 use lib.ListN.{get_or}
 use Rattle.slices.specs.Bytes.{Bytes}
-use Rattle.words.specs.Words.{wordAt}
+use Rattle.words.specs.Words.{word_at}
 use Rattle.layout.specs.declared.Sizes.{Sizes}
 use Rattle.layout.specs.Sizes.{dictionaries}
 use Rattle.layout.specs.Fields.{entry_at}
@@ -28,7 +28,7 @@ one_store s st st' pages lists S S' d l =
       entries = λ i. same i (dec_lt i (st.count d));
       count = counts;
       stamp = λ i. stamps i (dec_lt i (st.count d));
-      space = one-space s st.space st'.space (wordAt lists) d S.paged S'.paged l;
+      space = one-space s st.space st'.space (word_at lists) d S.paged S'.paged l;
     }
   where
     D : DictAt s pages lists d (st.entries d) (st.count d) (st.stamp d)
@@ -45,7 +45,7 @@ one_store s st st' pages lists S S' d l =
         let u = D.in_use i h in
         let v = D'.in_use i (omega (arith, counts)) in
         let e : u.0 ≡ v.0 =
-        addresses-once s (λ a. get_or pages a 0) (wordAt lists (entry_at s d i)) u.0 v.0 (D.holds.entry i u.0 u.1).1 (D'.holds.entry i v.0 v.1).1 in
+        addresses-once s (λ a. get_or pages a 0) (word_at lists (entry_at s d i)) u.0 v.0 (D.holds.entry i u.0 u.1).1 (D'.holds.entry i v.0 v.1).1 in
         u.1 ∙ ap some e ∙ sym v.1
     same i (no h) = D.past i (omega arith) ∙ sym (D'.past i (omega (arith, counts)))
 

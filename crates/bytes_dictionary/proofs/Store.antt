@@ -11,20 +11,20 @@ use lib.ListN.{length}
 use lib.Seq.{sets, length-sets}
 use Rattle.slices.specs.Bytes.{Bytes}
 use Rattle.slices.proofs.Tests.{Split, split}
-use Rattle.words.specs.Words.{wordAt, quadAt}
-use Rattle.fnv.specs.Fnv.{fnvOf}
+use Rattle.words.specs.Words.{word_at, quad_at}
+use Rattle.fnv.specs.Fnv.{fnv_of}
 use Rattle.layout.specs.declared.Sizes.{Sizes}
-use Rattle.layout.specs.Sizes.{InRange, dictionaries, pageSize, pageBytes, listBytes}
-use Rattle.layout.specs.Fields.{untakenAt, placeAt}
+use Rattle.layout.specs.Sizes.{InRange, dictionaries, page_size, page_bytes, list_bytes}
+use Rattle.layout.specs.Fields.{untaken_at, place_at}
 use Rattle.layout.proofs.Ranges.{page-size}
 use Rattle.layout.specs.Lent.{Lent}
 use Rattle.bytes_index.specs.Entries.{Entries, Misses}
 use Rattle.bytes_index.proofs.Index.{place-fits}
 use Rattle.bytes_buffer.specs.declared.Spot.{Spot}
 use Rattle.bytes_buffer.specs.declared.Spot.TheVariants.{Current, Next, NoPage, Bad}
-use Rattle.bytes_buffer.specs.Pages.{fits, upd, grownAt, allPages}
-use Rattle.page_words.specs.Written.{extendedPage, tookPage}
-use Rattle.bytes_buffer.specs.Spots.{next_of, currentOf, spotIn}
+use Rattle.bytes_buffer.specs.Pages.{fits, upd, grown_at, all_pages}
+use Rattle.page_words.specs.Written.{extended_page, took_page}
+use Rattle.bytes_buffer.specs.Spots.{next_of, current_of, spot_in}
 use Rattle.bytes_buffer.proofs.Pages.{size_is, fits-facts}
 use Rattle.bytes_buffer.specs.Tables.{PagesAt}
 use Rattle.bytes_buffer.proofs.Spots.{next-is, next-none}
@@ -32,8 +32,8 @@ use Rattle.page_words.proofs.Words.{length-extended, length-took}
 use Rattle.bytes_buffer.proofs.Tables.{SameTables, framed, current-below}
 use Rattle.bytes_buffer.proofs.Plans.{plan-fit, plan-unfit}
 use Rattle.bytes_buffer.proofs.Commits.{extended-holds, took-holds}
-use Rattle.bytes_entry.specs.Written.{entryWritten}
-use Rattle.bytes_dictionary.specs.Written.{pagesAfter, listsAfter, IsSpot}
+use Rattle.bytes_entry.specs.Written.{entry_written}
+use Rattle.bytes_dictionary.specs.Written.{pages_after, lists_after, IsSpot}
 use Rattle.bytes_dictionary.specs.Store.{Store, inserted, DictAt, StoreAt}
 use Rattle.bytes_dictionary.specs.Ready.{Ready}
 use Rattle.bytes_dictionary.proofs.Updates.{upd_same, upd_other, upd-each, more-old}
@@ -45,17 +45,17 @@ use Rattle.bytes_dictionary.proofs.Header.{header-kept}
 
 -- ---- lengths
 
-pub length-pages : (s : Sizes) (pages : Bytes) (spot : Spot) (key : Bytes) → length (pagesAfter s pages spot key) ≡ length pages
-unfolding pagesAfter
-length-pages s pages (Current page offset) key = length-sets pages (page * pageSize s + offset) key
-length-pages s pages (Next page) key = length-sets pages (page * pageSize s + 0) key
+pub length-pages : (s : Sizes) (pages : Bytes) (spot : Spot) (key : Bytes) → length (pages_after s pages spot key) ≡ length pages
+unfolding pages_after
+length-pages s pages (Current page offset) key = length-sets pages (page * page_size s + offset) key
+length-pages s pages (Next page) key = length-sets pages (page * page_size s + 0) key
 length-pages s pages NoPage key = refl
 length-pages s pages Bad key = refl
 
-pub length-lists : (s : Sizes) (lists : Bytes) (d n place : ℕ) (spot : Spot) (stamp : ℕ) (key : Bytes) → length (listsAfter s lists d n place spot stamp key) ≡ length lists
-unfolding listsAfter
-length-lists s lists d n place (Current page offset) stamp key = length-extended _ page (offset + length key) ∙ length-written s lists d n page offset (length key) stamp place (fnvOf key)
-length-lists s lists d n place (Next page) stamp key = length-took _ d page (length key) ∙ length-written s lists d n page 0 (length key) stamp place (fnvOf key)
+pub length-lists : (s : Sizes) (lists : Bytes) (d n place : ℕ) (spot : Spot) (stamp : ℕ) (key : Bytes) → length (lists_after s lists d n place spot stamp key) ≡ length lists
+unfolding lists_after
+length-lists s lists d n place (Current page offset) stamp key = length-extended _ page (offset + length key) ∙ length-written s lists d n page offset (length key) stamp place (fnv_of key)
+length-lists s lists d n place (Next page) stamp key = length-took _ d page (length key) ∙ length-written s lists d n page 0 (length key) stamp place (fnv_of key)
 length-lists s lists d n place NoPage stamp key = refl
 length-lists s lists d n place Bad stamp key = refl
 
@@ -69,28 +69,28 @@ dict-as s pages lists d es es' c c' t t' p q r D =
     (subst (λ (x : ℕ). DictAt s pages lists d es x t') q (subst (λ (x : ℕ → ℕ). DictAt s pages lists d es c x) r D))
 
 module _ (s : Sizes) (st : Store) (pages lists : Bytes) (d place stamp : ℕ) (key : Bytes) (F : Lent s pages lists dictionaries d) (S : StoreAt s st pages lists)
-    (room : st.count d < s.e) (short : length key ≤ pageSize s) (stamp-fits : stamp < 2 ^ 64)
+    (room : st.count d < s.e) (short : length key ≤ page_size s) (stamp-fits : stamp < 2 ^ 64)
     (later : (i : ℕ) → i + 1 ≡ st.count d → st.stamp d i < stamp) (pl : place < 2 * s.e)
-    (M : Misses s (λ j. quadAt lists (placeAt s d j)) (st.entries d) key place) where
+    (M : Misses s (λ j. quad_at lists (place_at s d j)) (st.entries d) key place) where
   -- From what the words are after it, wherever the entry lies.
-  finish : (page offset : ℕ) (lists' : Bytes) → Step s lists lists' d (st.count d) page offset (length key) stamp place (fnvOf key)
-      → Placed s (wordAt lists) (wordAt lists') d page offset (length key) → PagesAt s (grownAt s st.space d (length key)) (wordAt lists')
-      → length lists' ≡ length lists → ((j : ℕ) → j < 6 → wordAt lists' j ≡ wordAt lists j)
-      → StoreAt s (inserted s st d key stamp) (sets pages (page * pageSize s + offset) key) lists'
+  finish : (page offset : ℕ) (lists' : Bytes) → Step s lists lists' d (st.count d) page offset (length key) stamp place (fnv_of key)
+      → Placed s (word_at lists) (word_at lists') d page offset (length key) → PagesAt s (grown_at s st.space d (length key)) (word_at lists')
+      → length lists' ≡ length lists → ((j : ℕ) → j < 6 → word_at lists' j ≡ word_at lists j)
+      → StoreAt s (inserted s st d key stamp) (sets pages (page * page_size s + offset) key) lists'
   unfolding inserted
   finish page offset lists' T P H l w =
       record {
-        header = header-kept s (length pages) _ lists lists' (rw (length-sets pages (page * pageSize s + offset) key) F.pages-fit) (rw l F.lists-fit) w S.header;
+        header = header-kept s (length pages) _ lists lists' (rw (length-sets pages (page * page_size s + offset) key) F.pages-fit) (rw l F.lists-fit) w S.header;
         paged = H;
         dict = λ k kl. go k kl (ℕ_discrete k d);
       }
     where
       go : (k : ℕ) → k < dictionaries → Dec (k ≡ d)
-          → DictAt s (sets pages (page * pageSize s + offset) key) lists' k ((inserted s st d key stamp).entries k) ((inserted s st d key stamp).count k)
+          → DictAt s (sets pages (page * page_size s + offset) key) lists' k ((inserted s st d key stamp).entries k) ((inserted s st d key stamp).count k)
           ((inserted s st d key stamp).stamp k)
       go k kl (yes q) =
           subst
-          (λ (x : ℕ). DictAt s (sets pages (page * pageSize s + offset) key) lists' x ((inserted s st d key stamp).entries x) ((inserted s st d key stamp).count x)
+          (λ (x : ℕ). DictAt s (sets pages (page * page_size s + offset) key) lists' x ((inserted s st d key stamp).entries x) ((inserted s st d key stamp).count x)
           ((inserted s st d key stamp).stamp x)) (sym q)
           (dict-as s _ lists' d _ _ _ _ _ _ (sym (upd_same st.entries d _)) (sym (upd_same st.count d _)) (sym (upd_same st.stamp d _))
           (dict-own s F.ranged pages lists lists' d (st.count d) page offset stamp place key F.known room F.pages-fit T P (st.entries d) (st.stamp d)
@@ -101,100 +101,100 @@ module _ (s : Sizes) (st : Store) (pages lists : Bytes) (d place stamp : ℕ) (k
           kl q (S.dict k kl))
 
   -- The lists with the entry's own words.
-  module _ (page offset : ℕ) (p : page < s.n) (i : offset + length key ≤ pageSize s) where
+  module _ (page offset : ℕ) (p : page < s.n) (i : offset + length key ≤ page_size s) where
     lists₁ : Bytes
-    lists₁ = entryWritten s lists d (st.count d) page offset (length key) stamp place (fnvOf key)
+    lists₁ = entry_written s lists d (st.count d) page offset (length key) stamp place (fnv_of key)
 
-    step₁ : Step s lists lists₁ d (st.count d) page offset (length key) stamp place (fnvOf key)
+    step₁ : Step s lists lists₁ d (st.count d) page offset (length key) stamp place (fnv_of key)
     unfolding lists₁
     step₁ =
-        words-written s lists d (st.count d) page offset (length key) stamp place (fnvOf key) F.ranged F.lists-fit F.known room pl
+        words-written s lists d (st.count d) page offset (length key) stamp place (fnv_of key) F.ranged F.lists-fit F.known room pl
         (omega (arith, page-size s F.ranged, F.ranged.n)) stamp-fits
         (place-fits (st.count d) key (omega (arith, room, F.ranged.e)))
 
-    tables₁ : SameTables s (wordAt lists) (wordAt lists₁)
+    tables₁ : SameTables s (word_at lists) (word_at lists₁)
     unfolding lists₁
-    tables₁ = tables-kept s lists d (st.count d) page offset (length key) stamp place (fnvOf key) F.ranged F.lists-fit F.known room pl
+    tables₁ = tables-kept s lists d (st.count d) page offset (length key) stamp place (fnv_of key) F.ranged F.lists-fit F.known room pl
 
-    fits₁ : listBytes s ≤ length lists₁
+    fits₁ : list_bytes s ≤ length lists₁
     unfolding lists₁
-    fits₁ = subst (λ (x : ℕ). listBytes s ≤ x) (sym (length-written s lists d (st.count d) page offset (length key) stamp place (fnvOf key))) F.lists-fit
+    fits₁ = subst (λ (x : ℕ). list_bytes s ≤ x) (sym (length-written s lists d (st.count d) page offset (length key) stamp place (fnv_of key))) F.lists-fit
 
-    pages₁ : PagesAt s st.space (wordAt lists₁)
-    pages₁ = framed s st.space (wordAt lists) (wordAt lists₁) S.paged tables₁
+    pages₁ : PagesAt s st.space (word_at lists₁)
+    pages₁ = framed s st.space (word_at lists) (word_at lists₁) S.paged tables₁
 
   -- Behind what the current page has.
   store-current : fits s.p (st.space d) (length key) ≡ true
-      → let spot = Current (currentOf (wordAt lists) d) (st.space d).used in
-      StoreAt s (inserted s st d key stamp) (pagesAfter s pages spot key) (listsAfter s lists d (st.count d) place spot stamp key)
-  unfolding pagesAfter listsAfter lists₁
+      → let spot = Current (current_of (word_at lists) d) (st.space d).used in
+      StoreAt s (inserted s st d key stamp) (pages_after s pages spot key) (lists_after s lists d (st.count d) place spot stamp key)
+  unfolding pages_after lists_after lists₁
   store-current e =
       let x = fits-facts s.p (st.space d) (length key) e in
-      let g : ℕ = currentOf (wordAt lists) d in
+      let g : ℕ = current_of (word_at lists) d in
       let o : ℕ = (st.space d).used in
-      let p : g < s.n = omega (arith, current-below s st.space (wordAt lists) d S.paged F.known x.0, S.paged.room) in
-      let i : o + length key ≤ pageSize s = omega (arith, x.1, size_is s) in
+      let p : g < s.n = omega (arith, current-below s st.space (word_at lists) d S.paged F.known x.0, S.paged.room) in
+      let i : o + length key ≤ page_size s = omega (arith, x.1, size_is s) in
       let L : Bytes = lists₁ g o p i in
       let A = tables₁ g o p i in
-      let c : currentOf (wordAt L) d ≡ g = ap (λ (y : ℕ). y - 1) (A.current d F.known) in
-      let H : PagesAt s (grownAt s st.space d (length key)) (wordAt (extendedPage L g (o + length key))) =
-      subst (λ (y : ℕ). PagesAt s (grownAt s st.space d (length key)) (wordAt (extendedPage L y (o + length key)))) c
+      let c : current_of (word_at L) d ≡ g = ap (λ (y : ℕ). y - 1) (A.current d F.known) in
+      let H : PagesAt s (grown_at s st.space d (length key)) (word_at (extended_page L g (o + length key))) =
+      subst (λ (y : ℕ). PagesAt s (grown_at s st.space d (length key)) (word_at (extended_page L y (o + length key)))) c
       (extended-holds s st.space L d (length key) F.ranged (fits₁ g o p i) (pages₁ g o p i) F.known e) in
-      let P : Placed s (wordAt L) (wordAt (extendedPage L g (o + length key))) d g o (length key) =
-      subst (λ (y : ℕ). Placed s (wordAt L) (wordAt (extendedPage L y (o + length key))) d y o (length key)) c
+      let P : Placed s (word_at L) (word_at (extended_page L g (o + length key))) d g o (length key) =
+      subst (λ (y : ℕ). Placed s (word_at L) (word_at (extended_page L y (o + length key))) d y o (length key)) c
       (placed-current s st.space L d (length key) F.ranged (fits₁ g o p i) (pages₁ g o p i) F.known e) in
-      finish g o (extendedPage L g (o + length key))
-      (step-beyond s lists L _ d (st.count d) g o (length key) stamp place (fnvOf key) F.known (beyond-extended s L g (o + length key) p) (step₁ g o p i))
-      (placed_same s (wordAt lists) (wordAt L) _ d g o (length key) A P)
+      finish g o (extended_page L g (o + length key))
+      (step-beyond s lists L _ d (st.count d) g o (length key) stamp place (fnv_of key) F.known (beyond-extended s L g (o + length key) p) (step₁ g o p i))
+      (placed_same s (word_at lists) (word_at L) _ d g o (length key) A P)
       H
       (length-lists s lists d (st.count d) place (Current g o) stamp key)
       (λ j h. words-beside s lists d (st.count d) place stamp key F.ranged F.lists-fit F.known room pl (Current g o) (p, i) j (inl h))
 
   -- At the front of the lowest untaken page.
-  store-next : fits s.p (st.space d) (length key) ≡ false → allPages st.space < s.n
-      → let spot = Next (allPages st.space) in
-      StoreAt s (inserted s st d key stamp) (pagesAfter s pages spot key) (listsAfter s lists d (st.count d) place spot stamp key)
-  unfolding pagesAfter listsAfter lists₁
+  store-next : fits s.p (st.space d) (length key) ≡ false → all_pages st.space < s.n
+      → let spot = Next (all_pages st.space) in
+      StoreAt s (inserted s st d key stamp) (pages_after s pages spot key) (lists_after s lists d (st.count d) place spot stamp key)
+  unfolding pages_after lists_after lists₁
   store-next e p =
-      let g : ℕ = allPages st.space in
-      let i : 0 + length key ≤ pageSize s = omega arith in
+      let g : ℕ = all_pages st.space in
+      let i : 0 + length key ≤ page_size s = omega arith in
       let L : Bytes = lists₁ g 0 p i in
-      finish g 0 (tookPage L d g (length key))
-      (step-beyond s lists L _ d (st.count d) g 0 (length key) stamp place (fnvOf key) F.known (beyond-took s L d g (length key) F.known p) (step₁ g 0 p i))
-      (placed_same s (wordAt lists) (wordAt L) _ d g 0 (length key) (tables₁ g 0 p i)
+      finish g 0 (took_page L d g (length key))
+      (step-beyond s lists L _ d (st.count d) g 0 (length key) stamp place (fnv_of key) F.known (beyond-took s L d g (length key) F.known p) (step₁ g 0 p i))
+      (placed_same s (word_at lists) (word_at L) _ d g 0 (length key) (tables₁ g 0 p i)
       (placed-next s st.space L d (length key) F.ranged (fits₁ g 0 p i) (pages₁ g 0 p i) F.known e short p))
       (took-holds s st.space L d (length key) F.ranged (fits₁ g 0 p i) (pages₁ g 0 p i) F.known e short p)
       (length-lists s lists d (st.count d) place (Next g) stamp key)
       (λ j h. words-beside s lists d (st.count d) place stamp key F.ranged F.lists-fit F.known room pl (Next g) (p, short) j (inl h))
 
-  pub store-more : (spot : Spot) → spotIn s (wordAt lists) d (wordAt lists untakenAt) (length key) ≡ spot → IsSpot spot
-      → StoreAt s (inserted s st d key stamp) (pagesAfter s pages spot key) (listsAfter s lists d (st.count d) place spot stamp key)
-  store-more spot q ok = go (split (fits s.p (st.space d) (length key))) (dec_lt (allPages st.space) s.n)
+  pub store-more : (spot : Spot) → spot_in s (word_at lists) d (word_at lists untaken_at) (length key) ≡ spot → IsSpot spot
+      → StoreAt s (inserted s st d key stamp) (pages_after s pages spot key) (lists_after s lists d (st.count d) place spot stamp key)
+  store-more spot q ok = go (split (fits s.p (st.space d) (length key))) (dec_lt (all_pages st.space) s.n)
     where
       W : ℕ → ℕ
-      W = wordAt lists
+      W = word_at lists
 
-      at-spot : {x : Spot} → spot ≡ x → StoreAt s (inserted s st d key stamp) (pagesAfter s pages x key) (listsAfter s lists d (st.count d) place x stamp key)
-          → StoreAt s (inserted s st d key stamp) (pagesAfter s pages spot key) (listsAfter s lists d (st.count d) place spot stamp key)
-      at-spot e h = subst (λ (y : Spot). StoreAt s (inserted s st d key stamp) (pagesAfter s pages y key) (listsAfter s lists d (st.count d) place y stamp key)) (sym e) h
+      at-spot : {x : Spot} → spot ≡ x → StoreAt s (inserted s st d key stamp) (pages_after s pages x key) (lists_after s lists d (st.count d) place x stamp key)
+          → StoreAt s (inserted s st d key stamp) (pages_after s pages spot key) (lists_after s lists d (st.count d) place spot stamp key)
+      at-spot e h = subst (λ (y : Spot). StoreAt s (inserted s st d key stamp) (pages_after s pages y key) (lists_after s lists d (st.count d) place y stamp key)) (sym e) h
 
-      low : W untakenAt ≡ allPages st.space
+      low : W untaken_at ≡ all_pages st.space
       low = S.paged.lowest
 
-      go : Split (fits s.p (st.space d) (length key)) → Dec (allPages st.space < s.n)
-          → StoreAt s (inserted s st d key stamp) (pagesAfter s pages spot key) (listsAfter s lists d (st.count d) place spot stamp key)
-      go (inl e) h = at-spot (sym q ∙ plan-fit s st.space W d (W untakenAt) (length key) S.paged F.known e) (store-current e)
+      go : Split (fits s.p (st.space d) (length key)) → Dec (all_pages st.space < s.n)
+          → StoreAt s (inserted s st d key stamp) (pages_after s pages spot key) (lists_after s lists d (st.count d) place spot stamp key)
+      go (inl e) h = at-spot (sym q ∙ plan-fit s st.space W d (W untaken_at) (length key) S.paged F.known e) (store-current e)
       go (inr e) (yes h) =
-          at-spot (sym q ∙ plan-unfit s st.space W d (W untakenAt) (length key) S.paged F.known e ∙ ap (next_of s) low ∙ next-is s (allPages st.space) h) (store-next e h)
+          at-spot (sym q ∙ plan-unfit s st.space W d (W untaken_at) (length key) S.paged F.known e ∙ ap (next_of s) low ∙ next-is s (all_pages st.space) h) (store-next e h)
       go (inr e) (no h) =
           absurd
-          (subst IsSpot (sym q ∙ plan-unfit s st.space W d (W untakenAt) (length key) S.paged F.known e ∙ ap (next_of s) low ∙ next-none s (allPages st.space) (omega arith)) ok)
+          (subst IsSpot (sym q ∙ plan-unfit s st.space W d (W untaken_at) (length key) S.paged F.known e ∙ ap (next_of s) low ∙ next-none s (all_pages st.space) (omega arith)) ok)
 
 -- ---- every insert
 
 pub store-insert : (s : Sizes) (st : Store) (pages lists : Bytes) (d place : ℕ) (spot : Spot) (stamp : ℕ) (key : Bytes)
-    → InRange s → pageBytes s ≤ length pages → listBytes s ≤ length lists → StoreAt s st pages lists → Ready s st pages lists d place spot stamp key
-    → StoreAt s (inserted s st d key stamp) (pagesAfter s pages spot key) (listsAfter s lists d (st.count d) place spot stamp key)
+    → InRange s → page_bytes s ≤ length pages → list_bytes s ≤ length lists → StoreAt s st pages lists → Ready s st pages lists d place spot stamp key
+    → StoreAt s (inserted s st d key stamp) (pages_after s pages spot key) (lists_after s lists d (st.count d) place spot stamp key)
 store-insert s st pages lists d place spot stamp key r f g S R =
     store-more s st pages lists d place stamp key (record { ranged = r; pages-fit = f; lists-fit = g; known = R.known }) S R.room R.short R.stamp-fits R.later
     R.searched.range

@@ -1,14 +1,14 @@
 -- What must hold before an insert. Assumes nothing.
 use Rattle.std.specs.Prelude.{ℕ, ◌+◌, ◌^◌, ◌≤◌, ◌<◌, ◌≡◌, length}
 use Rattle.slices.specs.Bytes.{Bytes}
-use Rattle.words.specs.Words.{wordAt}
+use Rattle.words.specs.Words.{word_at}
 use Rattle.layout.specs.declared.Sizes.{Sizes}
-use Rattle.layout.specs.Sizes.{dictionaries, pageSize}
-use Rattle.layout.specs.Fields.{untakenAt}
+use Rattle.layout.specs.Sizes.{dictionaries, page_size}
+use Rattle.layout.specs.Fields.{untaken_at}
 use Rattle.bytes_index.specs.Search.{Searched}
 use Rattle.bytes_index.specs.declared.Probe.TheVariants.{Free}
 use Rattle.bytes_buffer.specs.declared.Spot.{Spot}
-use Rattle.bytes_buffer.specs.Spots.{spotIn}
+use Rattle.bytes_buffer.specs.Spots.{spot_in}
 use Rattle.bytes_dictionary.specs.Written.{IsSpot}
 use Rattle.bytes_dictionary.specs.Store.{Store}
 
@@ -18,8 +18,8 @@ pub record Ready (s : Sizes) (st : Store) (pages lists : Bytes) (d place : ℕ) 
   pub known : d < dictionaries
   pub searched : Searched s d pages lists key (Free place)
   pub room : st.count d < s.e
-  pub short : length key ≤ pageSize s
-  pub planned : spotIn s (wordAt lists) d (wordAt lists untakenAt) (length key) ≡ spot
+  pub short : length key ≤ page_size s
+  pub planned : spot_in s (word_at lists) d (word_at lists untaken_at) (length key) ≡ spot
   pub spotted : IsSpot spot
   pub stamp-fits : stamp < 2 ^ 64
   -- the stamp is above that of the dictionary's last entry

@@ -2,41 +2,41 @@
 use Rattle.std.specs.Prelude.{ℕ, ◌+◌, ◌*◌, ◌<◌, ◌≤◌, length}
 use Rattle.std.proofs.lemmas.List.Edits.{sets}
 use Rattle.slices.specs.Bytes.{Bytes}
-use Rattle.fnv.specs.Fnv.{fnvOf}
+use Rattle.fnv.specs.Fnv.{fnv_of}
 use Rattle.layout.specs.declared.Sizes.{Sizes}
-use Rattle.layout.specs.Sizes.{pageSize}
+use Rattle.layout.specs.Sizes.{page_size}
 use Rattle.bytes_buffer.specs.declared.Spot.{Spot}
 use Rattle.bytes_buffer.specs.declared.Spot.TheVariants.{Current, Next, NoPage, Bad}
-use Rattle.page_words.specs.Written.{extendedPage, tookPage}
-use Rattle.bytes_entry.specs.Written.{entryWritten}
+use Rattle.page_words.specs.Written.{extended_page, took_page}
+use Rattle.bytes_entry.specs.Written.{entry_written}
 use Rattle.bytes_dictionary.specs.declared.Room.{Room}
 use Rattle.bytes_dictionary.specs.declared.Room.TheVariants.{At, Nothing}
 
 -- The pages get the key's bytes at its spot; `lists` gets its words and those of its page. Without a spot nothing is written.
-unfoldable pub pagesAfter : Sizes → Bytes → Spot → Bytes → Bytes
-pagesAfter s pages (Current page offset) key = sets pages (page * pageSize s + offset) key
-pagesAfter s pages (Next page) key = sets pages (page * pageSize s + 0) key
-pagesAfter s pages NoPage key = pages
-pagesAfter s pages Bad key = pages
+unfoldable pub pages_after : Sizes → Bytes → Spot → Bytes → Bytes
+pages_after s pages (Current page offset) key = sets pages (page * page_size s + offset) key
+pages_after s pages (Next page) key = sets pages (page * page_size s + 0) key
+pages_after s pages NoPage key = pages
+pages_after s pages Bad key = pages
 
-unfoldable pub listsAfter : Sizes → Bytes → ℕ → ℕ → ℕ → Spot → ℕ → Bytes → Bytes
-listsAfter s lists d n place (Current page offset) stamp key =
-    extendedPage (entryWritten s lists d n page offset (length key) stamp place (fnvOf key)) page (offset + length key)
-listsAfter s lists d n place (Next page) stamp key = tookPage (entryWritten s lists d n page 0 (length key) stamp place (fnvOf key)) d page (length key)
-listsAfter s lists d n place NoPage stamp key = lists
-listsAfter s lists d n place Bad stamp key = lists
+unfoldable pub lists_after : Sizes → Bytes → ℕ → ℕ → ℕ → Spot → ℕ → Bytes → Bytes
+lists_after s lists d n place (Current page offset) stamp key =
+    extended_page (entry_written s lists d n page offset (length key) stamp place (fnv_of key)) page (offset + length key)
+lists_after s lists d n place (Next page) stamp key = took_page (entry_written s lists d n page 0 (length key) stamp place (fnv_of key)) d page (length key)
+lists_after s lists d n place NoPage stamp key = lists
+lists_after s lists d n place Bad stamp key = lists
 
 -- The page and the offset of a spot.
-abbrev pub roomOf : Spot → Room
-roomOf (Current page offset) = At page offset
-roomOf (Next page) = At page 0
-roomOf NoPage = Nothing
-roomOf Bad = Nothing
+abbrev pub room_of : Spot → Room
+room_of (Current page offset) = At page offset
+room_of (Next page) = At page 0
+room_of NoPage = Nothing
+room_of Bad = Nothing
 
 -- The spot, if there is one, has room for an entry of len bytes. This holds of every planned spot.
 abbrev pub HasRoom : Sizes → ℕ → Spot → Type 0
-HasRoom s len (Current page offset) = (page < s.n) × (offset + len ≤ pageSize s)
-HasRoom s len (Next page) = (page < s.n) × (len ≤ pageSize s)
+HasRoom s len (Current page offset) = (page < s.n) × (offset + len ≤ page_size s)
+HasRoom s len (Next page) = (page < s.n) × (len ≤ page_size s)
 HasRoom s len NoPage = Unit {0}
 HasRoom s len Bad = Unit {0}
 

@@ -2,13 +2,13 @@
 #![tactic(auto)]
 
 ghost use Rattle.std.specs.Prelude.{◌≡◌, ◌+◌, ◌*◌, ◌≤◌, ◌<◌, length, take, drop};
-ghost use Rattle.words.specs.Words.{wordAt};
-ghost use Rattle.layout.specs.Sizes.{InRange, dictionaries, listBytes};
-ghost use Rattle.layout.specs.Fields.{countAt};
+ghost use Rattle.words.specs.Words.{word_at};
+ghost use Rattle.layout.specs.Sizes.{InRange, dictionaries, list_bytes};
+ghost use Rattle.layout.specs.Fields.{count_at};
 ghost use Rattle.layout.specs.Lent.{Lent};
-ghost use Rattle.bytes_key.specs.Keys.{bytesIn, IsKey};
-ghost use Rattle.bytes_dictionary.specs.Written.{pagesAfter, listsAfter, HasRoom, roomOf};
-ghost use Rattle.bytes_dictionary.specs.Reading.{countIn, Looked};
+ghost use Rattle.bytes_key.specs.Keys.{bytes_in, IsKey};
+ghost use Rattle.bytes_dictionary.specs.Written.{pages_after, lists_after, HasRoom, room_of};
+ghost use Rattle.bytes_dictionary.specs.Reading.{count_in, Looked};
 
 use bytes_buffer::Spot;
 use bytes_entry::{Extent, NewEntry};
@@ -28,8 +28,8 @@ pub enum Counted {
 }
 
 pub fn count(lists: &[u8], s: Sizes, d: usize) -> Counted
-    requires { InRange s × (listBytes s ≤ length lists.now) × (d < dictionaries) }
-    ensures { result ≡ countIn s (wordAt lists.now (countAt d)) }
+    requires { InRange s × (list_bytes s ≤ length lists.now) × (d < dictionaries) }
+    ensures { result ≡ count_in s (word_at lists.now (count_at d)) }
 {
     let n = words::word_at(lists, COUNT + STRIDE * d);
     let e = s.e;
@@ -47,7 +47,7 @@ enum Room {
 }
 
 fn room_at(spot: Spot) -> Room
-    ensures { result ≡ roomOf spot }
+    ensures { result ≡ room_of spot }
 {
     match spot {
         Spot::Current { page, offset } => Room::At { page, offset },
@@ -69,9 +69,9 @@ pub fn insert(
     rest: &[u8],
 )
     requires lent { Lent s pages.old lists.old dictionaries key.d × (x.n < s.e) × (x.place < 2 * s.e) }
-    requires has_room { HasRoom s (length (bytesIn key front.now rest.now)) spot × IsKey key front.now rest.now }
-    ensures pages { pages.new ≡ pagesAfter s pages.old spot (bytesIn key front.now rest.now) }
-    ensures lists { lists.new ≡ listsAfter s lists.old key.d x.n x.place spot x.stamp (bytesIn key front.now rest.now) }
+    requires has_room { HasRoom s (length (bytes_in key front.now rest.now)) spot × IsKey key front.now rest.now }
+    ensures pages { pages.new ≡ pages_after s pages.old spot (bytes_in key front.now rest.now) }
+    ensures lists { lists.new ≡ lists_after s lists.old key.d x.n x.place spot x.stamp (bytes_in key front.now rest.now) }
 {
     let Room::At { page, offset } = room_at(spot) else {
         return;
@@ -96,7 +96,7 @@ pub enum Lookup {
 }
 
 pub fn look_up(lists: &[u8], s: Sizes, d: usize, id: EntryId) -> Lookup
-    requires { InRange s × (listBytes s ≤ length lists.now) × (d < dictionaries) }
+    requires { InRange s × (list_bytes s ≤ length lists.now) × (d < dictionaries) }
     ensures { Looked s d id.0 lists.now result }
 {
     let i = id.0;

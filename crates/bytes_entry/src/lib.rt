@@ -3,19 +3,19 @@
 
 ghost use Rattle.std.specs.Prelude.{◌≡◌, ◌+◌, ◌*◌, ◌≤◌, ◌<◌, length};
 ghost use Rattle.std.proofs.lemmas.List.Edits.{sets};
-ghost use Rattle.layout.specs.Sizes.{InRange, dictionaries, pageSize, listBytes};
-ghost use Rattle.layout.specs.Fields.{entryWord, placeWord};
+ghost use Rattle.layout.specs.Sizes.{InRange, dictionaries, page_size, list_bytes};
+ghost use Rattle.layout.specs.Fields.{entry_word, place_word};
 ghost use Rattle.layout.specs.Lent.{Lent};
-ghost use Rattle.bytes_key.specs.Keys.{bytesIn};
-ghost use Rattle.bytes_entry.specs.Written.{entryWritten};
+ghost use Rattle.bytes_key.specs.Keys.{bytes_in};
+ghost use Rattle.bytes_entry.specs.Written.{entry_written};
 
 use bytes_key::Key;
 use layout::{COUNT, ENTRY_NUMBERS, LENGTH, PAGE_NUMBERS, STRIDE, Sizes};
 
 // Writes a key at the start of its page's tail: its front, and the rest behind it.
 fn write_tail(tail: &mut [u8], key: Key, front: &[u8], rest: &[u8])
-    requires { length (bytesIn key front.now rest.now) ≤ length tail.old }
-    ensures { tail.new ≡ sets tail.old 0 (bytesIn key front.now rest.now) }
+    requires { length (bytes_in key front.now rest.now) ≤ length tail.old }
+    ensures { tail.new ≡ sets tail.old 0 (bytes_in key front.now rest.now) }
 {
     let mode = key.front;
     let restmode = key.rest;
@@ -26,8 +26,8 @@ fn write_tail(tail: &mut [u8], key: Key, front: &[u8], rest: &[u8])
 
 // Writes a key at `at` in the pages. Its page ends at `end`. The byte writer is lent only the tail from `at` to `end`, no byte of another page.
 fn write_key(pages: &mut [u8], at: usize, end: usize, key: Key, front: &[u8], rest: &[u8])
-    requires { (at + length (bytesIn key front.now rest.now) ≤ end) × (end ≤ length pages.old) }
-    ensures { pages.new ≡ sets pages.old at (bytesIn key front.now rest.now) }
+    requires { (at + length (bytes_in key front.now rest.now) ≤ end) × (end ≤ length pages.old) }
+    ensures { pages.new ≡ sets pages.old at (bytes_in key front.now rest.now) }
 {
     write_tail(&mut pages[at..end], key, front, rest);
 }
@@ -43,7 +43,7 @@ pub struct Extent {
 // The same in one word.
 fn entry_word(lies: Extent) -> usize
     requires { (lies.page < 1024) × (lies.offset ≤ 1048576) × (lies.len ≤ 1048576) }
-    ensures { result ≡ entryWord lies.page lies.offset lies.len }
+    ensures { result ≡ entry_word lies.page lies.offset lies.len }
 {
     lies.page + PAGE_NUMBERS * lies.offset + LENGTH * lies.len
 }
@@ -51,7 +51,7 @@ fn entry_word(lies: Extent) -> usize
 // The value of the index place of entry number n, whose key has the hash h.
 fn place_word(n: usize, h: u32) -> usize
     requires { n < 1048576 }
-    ensures { result ≡ placeWord n h }
+    ensures { result ≡ place_word n h }
 {
     n + 1 + ENTRY_NUMBERS * bytes_key::top_bits(h)
 }
@@ -66,9 +66,9 @@ pub struct NewEntry {
 
 // Writes the words of a fresh entry of dictionary d, whose key has the hash h: where it lies, its stamp, the place that names it, and the count.
 fn write_entry(lists: &mut [u8], s: Sizes, d: usize, h: u32, x: NewEntry, lies: Extent)
-    requires in_range { InRange s × (listBytes s ≤ length lists.old) × (d < dictionaries) × (x.n < s.e) × (x.place < 2 * s.e) }
+    requires in_range { InRange s × (list_bytes s ≤ length lists.old) × (d < dictionaries) × (x.n < s.e) × (x.place < 2 * s.e) }
     requires page_bound { (lies.page < 1024) × (lies.offset ≤ 1048576) × (lies.len ≤ 1048576) }
-    ensures { lists.new ≡ entryWritten s lists.old d x.n lies.page lies.offset lies.len x.stamp x.place h }
+    ensures { lists.new ≡ entry_written s lists.old d x.n lies.page lies.offset lies.len x.stamp x.place h }
 {
     let e = s.e;
     let n = x.n;
@@ -91,9 +91,9 @@ pub fn place_entry(
     rest: &[u8],
 )
     requires lent { Lent s pages.old lists.old dictionaries key.d × (x.n < s.e) × (x.place < 2 * s.e) }
-    requires page_lt_n { (lies.page < s.n) × (lies.offset + lies.len ≤ pageSize s) × (lies.len ≡ length (bytesIn key front.now rest.now)) }
-    ensures pages { pages.new ≡ sets pages.old (lies.page * pageSize s + lies.offset) (bytesIn key front.now rest.now) }
-    ensures lists { lists.new ≡ entryWritten s lists.old key.d x.n lies.page lies.offset lies.len x.stamp x.place key.h }
+    requires page_lt_n { (lies.page < s.n) × (lies.offset + lies.len ≤ page_size s) × (lies.len ≡ length (bytes_in key front.now rest.now)) }
+    ensures pages { pages.new ≡ sets pages.old (lies.page * page_size s + lies.offset) (bytes_in key front.now rest.now) }
+    ensures lists { lists.new ≡ entry_written s lists.old key.d x.n lies.page lies.offset lies.len x.stamp x.place key.h }
 {
     let size = layout::page_size(s);
     let start = lies.page * size;

@@ -4,18 +4,18 @@ use Prim.Native.Nat.{ℕ, ◌+◌, ◌-◌, ◌%◌, ◌≤◌, ◌<◌}
 use native.Mathlib.Omega.{arith}
 use native.Mathlib.Nat.{mod-lt, mod-eq_of_lt, mod-add-mod, add-mod_right, add-zero}
 use native.Mathlib.Decide.{dec_le}
-use Rattle.bytes_index.specs.Place.{placeAfter}
+use Rattle.bytes_index.specs.Place.{place_after}
 
-pub place-lt : (m h k : ℕ) → 0 < m → placeAfter m h k < m
-unfolding placeAfter
+pub place-lt : (m h k : ℕ) → 0 < m → place_after m h k < m
+unfolding place_after
 place-lt m h k p = mod-lt (h + k) p
 
-pub place-zero : (m h : ℕ) → placeAfter m h 0 ≡ h % m
-unfolding placeAfter
+pub place-zero : (m h : ℕ) → place_after m h 0 ≡ h % m
+unfolding place_after
 place-zero m h = rw add-zero
 
-pub place-next : (m h k : ℕ) → placeAfter m h (k + 1) ≡ (placeAfter m h k + 1) % m
-unfolding placeAfter
+pub place-next : (m h k : ℕ) → place_after m h (k + 1) ≡ (place_after m h k + 1) % m
+unfolding place_after
 place-next m h k =
     let e : h + (k + 1) ≡ h + k + 1 = omega arith in
     rw e (sym (mod-add-mod (h + k) m 1))
@@ -24,10 +24,10 @@ place-next m h k =
 pub record Visit (m h j : ℕ) : Type 0 where
   pub step : ℕ
   pub near : step < m
-  pub here : placeAfter m h step ≡ j
+  pub here : place_after m h step ≡ j
 
 pub place-onto : (m h j : ℕ) → j < m → Visit m h j
-unfolding placeAfter
+unfolding place_after
 place-onto m h j l = go (dec_le (h % m) j)
   where
     r : h % m < m

@@ -12,13 +12,12 @@ use borrow.Author.Tests.{ltb-true, leb-true, lt-ltb, le-leb}
 use Rattle.slices.specs.Bytes.{Bytes}
 use Rattle.slices.proofs.Tests.{Split, split, and_left, and_right, clash}
 use Rattle.layout.specs.declared.Sizes.{Sizes}
-use Rattle.layout.specs.Sizes.{pageSize, pageBytes}
+use Rattle.layout.specs.Sizes.{page_size}
 use Rattle.layout.specs.Fields.{page_of, offset_of, size_of}
-use Rattle.bytes_index.specs.declared.Span.{Span}
 use Rattle.bytes_index.specs.declared.Span.TheVariants.{At, Bad}
 use Rattle.bytes_index.specs.Entries.{address_of, Addresses}
-use Rattle.bytes_index.specs.Field.{entryField, SpanInside, SpanOf}
-use Rattle.bytes_key.specs.Keys.{frontIs, Agree}
+use Rattle.bytes_index.specs.Field.{entry_field}
+use Rattle.bytes_key.specs.Keys.{front_is, Agree}
 use Rattle.bytes_key.proofs.Fronts.{front-facts, front-own, front-sized}
 
 -- ---- an entry's word
@@ -26,24 +25,24 @@ use Rattle.bytes_key.proofs.Fronts.{front-facts, front-own, front-sized}
 -- It names a part of one page.
 pub record Fielded (s : Sizes) (w at len : ℕ) : Type 0 where
   pub paged : page_of w < s.n
-  pub inside : offset_of w + size_of w ≤ pageSize s
+  pub inside : offset_of w + size_of w ≤ page_size s
   pub starts : at ≡ address_of s w
   pub sized : len ≡ size_of w
 
-pub field_in : (s : Sizes) (w : ℕ) → page_of w < s.n → offset_of w + size_of w ≤ pageSize s → entryField s w ≡ At (address_of s w) (size_of w)
-unfolding entryField
-field_in s w p q = rw (lt-ltb (page_of w) s.n p, le-leb (offset_of w + size_of w) (pageSize s) q)
+pub field_in : (s : Sizes) (w : ℕ) → page_of w < s.n → offset_of w + size_of w ≤ page_size s → entry_field s w ≡ At (address_of s w) (size_of w)
+unfolding entry_field
+field_in s w p q = rw (lt-ltb (page_of w) s.n p, le-leb (offset_of w + size_of w) (page_size s) q)
 
-pub field_at : (s : Sizes) (w at len : ℕ) → entryField s w ≡ At at len → Fielded s w at len
-unfolding entryField
-field_at s w at len e = go (split (ltb (page_of w) s.n && leb (offset_of w + size_of w) (pageSize s)))
+pub field_at : (s : Sizes) (w at len : ℕ) → entry_field s w ≡ At at len → Fielded s w at len
+unfolding entry_field
+field_at s w at len e = go (split (ltb (page_of w) s.n && leb (offset_of w + size_of w) (page_size s)))
   where
-    go : Split (ltb (page_of w) s.n && leb (offset_of w + size_of w) (pageSize s)) → Fielded s w at len
+    go : Split (ltb (page_of w) s.n && leb (offset_of w + size_of w) (page_size s)) → Fielded s w at len
     go (inl p) =
         let f : At (address_of s w) (size_of w) ≡ At at len = rw p at e in
         record {
           paged = ltb-true (page_of w) s.n (and_left (ltb (page_of w) s.n) _ p);
-          inside = leb-true (offset_of w + size_of w) (pageSize s) (and_right (ltb (page_of w) s.n) _ p);
+          inside = leb-true (offset_of w + size_of w) (page_size s) (and_right (ltb (page_of w) s.n) _ p);
           starts = cc;
           sized = cc;
         }
@@ -52,14 +51,14 @@ field_at s w at len e = go (split (ltb (page_of w) s.n && leb (offset_of w + siz
         let z : ◌≡◌ {A = ℕ} 0 1 = cc in
         absurd (omega arith)
 
-pub field-bad : (s : Sizes) (w : ℕ) → (page_of w < s.n → offset_of w + size_of w ≤ pageSize s → ⊥) → entryField s w ≡ Bad
-unfolding entryField
-field-bad s w h = go (split (ltb (page_of w) s.n && leb (offset_of w + size_of w) (pageSize s)))
+pub field-bad : (s : Sizes) (w : ℕ) → (page_of w < s.n → offset_of w + size_of w ≤ page_size s → ⊥) → entry_field s w ≡ Bad
+unfolding entry_field
+field-bad s w h = go (split (ltb (page_of w) s.n && leb (offset_of w + size_of w) (page_size s)))
   where
-    go : Split (ltb (page_of w) s.n && leb (offset_of w + size_of w) (pageSize s)) → entryField s w ≡ Bad
+    go : Split (ltb (page_of w) s.n && leb (offset_of w + size_of w) (page_size s)) → entry_field s w ≡ Bad
     go (inl p) =
         absurd (h (ltb-true (page_of w) s.n (and_left (ltb (page_of w) s.n) _ p))
-        (leb-true (offset_of w + size_of w) (pageSize s) (and_right (ltb (page_of w) s.n) _ p)))
+        (leb-true (offset_of w + size_of w) (page_size s) (and_right (ltb (page_of w) s.n) _ p)))
     go (inr p) = rw p
 
 -- ---- the part of the pages
@@ -74,7 +73,7 @@ addresses-part s pages w key l t =
     let e : length (take n (drop a pages)) ≡ n = simp (length-take, length-drop) (omega arith) in
     ext_get_or 0 (take n (drop a pages)) key (e ∙ z) (λ i h. get_or-take n (drop a pages) i 0 (omega arith) ∙ get_or-drop a pages i 0 ∙ t.bytes i (omega arith))
 
-pub part-addresses : (s : Sizes) (pages : Bytes) (w : ℕ) (key : Bytes) → page_of w < s.n → offset_of w + size_of w ≤ pageSize s
+pub part-addresses : (s : Sizes) (pages : Bytes) (w : ℕ) (key : Bytes) → page_of w < s.n → offset_of w + size_of w ≤ page_size s
     → address_of s w + size_of w ≤ length pages → take (size_of w) (drop (address_of s w) pages) ≡ key → Addresses s (λ a. get_or pages a 0) w key
 part-addresses s pages w key p q l e =
     let n : ℕ = size_of w in
@@ -91,7 +90,7 @@ part-addresses s pages w key p q l e =
 -- ---- the key against the part: `at` and `len` as they were read, the front and the rest of the key
 
 module _ (s : Sizes) (pages : Bytes) (w at len : ℕ) (front rest key : Bytes) (whole : front ++ rest ≡ key)
-    (field : entryField s w ≡ At at len) (fits : at + len ≤ length pages) where
+    (field : entry_field s w ≡ At at len) (fits : at + len ≤ length pages) where
   part : Bytes
   part = take (at + len - at) (drop at pages)
 
@@ -118,11 +117,11 @@ module _ (s : Sizes) (pages : Bytes) (w at len : ℕ) (front rest key : Bytes) (
   same-part : Addresses s (λ a. get_or pages a 0) w key → part ≡ front ++ rest
   same-part t = part-is ∙ addresses-part s pages w key ended t ∙ sym whole
 
-  pub not-front : frontIs (take (at + len - at) (drop at pages)) front (length rest) ≡ false → Addresses s (λ a. get_or pages a 0) w key → ⊥
+  pub not-front : front_is (take (at + len - at) (drop at pages)) front (length rest) ≡ false → Addresses s (λ a. get_or pages a 0) w key → ⊥
   unfolding part
-  not-front e t = clash (ap (λ (x : Bytes). frontIs x front (length rest)) (same-part t) ∙ front-own front rest) e
+  not-front e t = clash (ap (λ (x : Bytes). front_is x front (length rest)) (same-part t) ∙ front-own front rest) e
 
-  module _ (e : frontIs (take (at + len - at) (drop at pages)) front (length rest) ≡ true) where
+  module _ (e : front_is (take (at + len - at) (drop at pages)) front (length rest) ≡ true) where
     sized : len ≡ length front + length rest
     sized = front-sized pages at len front (length rest) fits e
 

@@ -2,5 +2,5 @@
 use Rattle.std.specs.Prelude.{ℕ, ◌+◌, ◌%◌}
 
 -- The place after k steps.
-unfoldable pub placeAfter : ℕ → ℕ → ℕ → ℕ
-placeAfter m h k = (h + k) % m
+unfoldable pub place_after : ℕ → ℕ → ℕ → ℕ
+place_after m h k = (h + k) % m

@@ -2,22 +2,22 @@
 use Rattle.std.specs.Prelude.{◌≡◌, ℕ, ◌*◌, ◌<◌, get_or}
 use Rattle.std.proofs.Math.Option.{some}
 use Rattle.slices.specs.Bytes.{Bytes}
-use Rattle.words.specs.Words.{wordAt, quadAt}
-use Rattle.fnv.specs.Fnv.{fnvOf}
+use Rattle.words.specs.Words.{word_at, quad_at}
+use Rattle.fnv.specs.Fnv.{fnv_of}
 use Rattle.layout.specs.declared.Sizes.{Sizes}
-use Rattle.layout.specs.Fields.{entry_at, placeAt}
+use Rattle.layout.specs.Fields.{entry_at, place_at}
 use Rattle.bytes_index.specs.Entries.{Entries, Addresses, Met, FreeAt, Holds, Misses}
 use Rattle.bytes_index.specs.declared.Probe.{Probe}
 use Rattle.bytes_index.specs.declared.Probe.TheVariants.{At, Free, Bad}
 
 -- Dictionary d of a memory holds these entries.
 abbrev pub HoldsEntries : Sizes → ℕ → Bytes → Bytes → Entries → Type 0
-HoldsEntries s d pages lists es = Holds s (λ a. get_or pages a 0) (λ i. wordAt lists (entry_at s d i)) (λ j. quadAt lists (placeAt s d j)) es
+HoldsEntries s d pages lists es = Holds s (λ a. get_or pages a 0) (λ i. word_at lists (entry_at s d i)) (λ j. quad_at lists (place_at s d j)) es
 
 -- At: the number of the key's entry. Free: the empty place where the search ended. If the dictionary holds entries, Bad is never answered.
 abbrev pub Answer : Sizes → ℕ → Bytes → Entries → Bytes → Probe → Type 0
 Answer s d lists es key (At i) = es i ≡ some key
-Answer s d lists es key (Free j) = Misses s (λ k. quadAt lists (placeAt s d k)) es key j
+Answer s d lists es key (Free j) = Misses s (λ k. quad_at lists (place_at s d k)) es key j
 Answer s d lists es key Bad = ⊥
 
 -- The bounds of an answer, whatever the memory holds.
@@ -31,8 +31,8 @@ Ranged s Bad = Unit {0}
 -- `right`, of memory that holds entries.
 abbrev pub Went : Sizes → ℕ → Bytes → Bytes → Bytes → Probe → Type 0
 Went s d pages lists key (At i) =
-    Met (λ j. quadAt lists (placeAt s d j)) (2 * s.e) (fnvOf key) i × Addresses s (λ a. get_or pages a 0) (wordAt lists (entry_at s d i)) key
-Went s d pages lists key (Free j) = FreeAt (λ k. quadAt lists (placeAt s d k)) (2 * s.e) (fnvOf key) j
+    Met (λ j. quad_at lists (place_at s d j)) (2 * s.e) (fnv_of key) i × Addresses s (λ a. get_or pages a 0) (word_at lists (entry_at s d i)) key
+Went s d pages lists key (Free j) = FreeAt (λ k. quad_at lists (place_at s d k)) (2 * s.e) (fnv_of key) j
 Went s d pages lists key Bad = Unit {0}
 
 pub record Searched (s : Sizes) (d : ℕ) (pages lists key : Bytes) (r : Probe) : Type 0 where

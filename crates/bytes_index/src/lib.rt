@@ -2,12 +2,12 @@
 #![tactic(auto)]
 
 ghost use Rattle.std.specs.Prelude.{◌≤◌, ◌<◌, length};
-ghost use Rattle.words.specs.Words.{wordAt};
-ghost use Rattle.layout.specs.Sizes.{InRange, dictionaries, listBytes};
+ghost use Rattle.words.specs.Words.{word_at};
+ghost use Rattle.layout.specs.Sizes.{InRange, dictionaries, list_bytes};
 ghost use Rattle.layout.specs.Fields.{entry_at};
 ghost use Rattle.layout.specs.Lent.{Lent};
 ghost use Rattle.bytes_index.specs.Field.{SpanOf};
-ghost use Rattle.bytes_key.specs.Keys.{bytesIn, IsKey};
+ghost use Rattle.bytes_key.specs.Keys.{bytes_in, IsKey};
 ghost use Rattle.bytes_index.specs.Search.{Searched};
 
 use bytes_key::Key;
@@ -30,8 +30,8 @@ pub enum Span {
 
 // Where the bytes of entry i of dictionary d lie.
 pub fn entry(lists: &[u8], s: Sizes, d: usize, i: usize) -> Span
-    requires { InRange s × (listBytes s ≤ length lists.now) × (d < dictionaries) × (i < s.e) }
-    ensures { SpanOf s (wordAt lists.now (entry_at s d i)) result }
+    requires { InRange s × (list_bytes s ≤ length lists.now) × (d < dictionaries) × (i < s.e) }
+    ensures { SpanOf s (word_at lists.now (entry_at s d i)) result }
 {
     let w = words::word_at(lists, layout::dict_at(s, d) + i);
     let page = w % PAGE_NUMBERS;
@@ -53,7 +53,7 @@ pub fn entry(lists: &[u8], s: Sizes, d: usize, i: usize) -> Span
 // An entry whose hash has other top bits has another key.
 fn probe_index(pages: &[u8], lists: &[u8], s: Sizes, key: Key, front: &[u8], rest: &[u8]) -> Probe
     requires { Lent s pages.now lists.now dictionaries key.d × IsKey key front.now rest.now }
-    ensures { Searched s key.d pages.now lists.now (bytesIn key front.now rest.now) result }
+    ensures { Searched s key.d pages.now lists.now (bytes_in key front.now rest.now) result }
 {
     let e = s.e;
     let m = 2 * e;
@@ -119,7 +119,7 @@ pub fn bytes_to_id(
     rest: &[u8],
 ) -> Probe
     requires { Lent s pages.now lists.now dictionaries key.d × IsKey key front.now rest.now }
-    ensures { Searched s key.d pages.now lists.now (bytesIn key front.now rest.now) result }
+    ensures { Searched s key.d pages.now lists.now (bytes_in key front.now rest.now) result }
 {
     probe_index(&pages[..], &lists[..], s, key, &front[..], &rest[..])
 }

@@ -5,7 +5,7 @@ use Prim.Native.Nat.{ℕ, ◌+◌, ◌-◌, ◌≤◌, ◌<◌}
 use native.Mathlib.Omega.{arith}
 use lib.ListN.{length, get_or, take, drop, length-take, length-drop}
 use lib.Seq.{ext_get_or, get_or-take, get_or-drop}
-use Rattle.slices.specs.Bytes.{Bytes, sameBytes}
+use Rattle.slices.specs.Bytes.{Bytes, same_bytes}
 use Rattle.slices.proofs.Bytes.{bytes-true, bytes_same}
 use Rattle.slices.proofs.Tests.{clash}
 use Rattle.parts.specs.declared.Mode.{Mode}
@@ -48,12 +48,12 @@ module _ (pages : Bytes) (end : ℕ) (rest : Bytes) (fits : length rest ≤ end)
       ∙ ap (λ (x : Bytes). get_or x (length rest - k) 0) (sym e)
 
   -- The rest was compared with the part at once, and is not the same;
-  pub at-once-not : (left : ℕ) → sameBytes rest (take (end - (end - length rest)) (drop (end - length rest) pages)) ≡ false → Agreeing pages end rest left 0
+  pub at-once-not : (left : ℕ) → same_bytes rest (take (end - (end - length rest)) (drop (end - length rest) pages)) ≡ false → Agreeing pages end rest left 0
   unfolding part
-  at-once-not left e = no_more pages end rest left (λ h. clash (ap (sameBytes rest) (bytes-part h) ∙ bytes_same rest) e)
+  at-once-not left e = no_more pages end rest left (λ h. clash (ap (same_bytes rest) (bytes-part h) ∙ bytes_same rest) e)
 
   -- or it is.
-  pub at_once : (left : ℕ) → 0 < left → left ≤ length rest → sameBytes rest (take (end - (end - length rest)) (drop (end - length rest) pages)) ≡ true
+  pub at_once : (left : ℕ) → 0 < left → left ≤ length rest → same_bytes rest (take (end - (end - length rest)) (drop (end - length rest) pages)) ≡ true
       → Agreeing pages end rest left left
   unfolding part
   at_once left z m e =

@@ -9,16 +9,16 @@ use lib.Dec.{eqb}
 use lib.ListN.{length, take, drop, length-append, length-take, length-drop}
 use lib.Seq.{take-append_seam}
 use borrow.Author.Tests.{eqb-true, eq-eqb, ne_eqb}
-use Rattle.slices.specs.Bytes.{Bytes, sameBytes}
+use Rattle.slices.specs.Bytes.{Bytes, same_bytes}
 use Rattle.slices.proofs.Bytes.{bytes-true, bytes_same}
 use Rattle.slices.proofs.Tests.{and_left, and_right}
 use Rattle.parts.specs.Parts.{bytes_of}
 use Rattle.bytes_key.specs.declared.Key.{Key}
-use Rattle.bytes_key.specs.Keys.{bytesIn, IsKey, frontIs}
+use Rattle.bytes_key.specs.Keys.{bytes_in, IsKey, front_is}
 
 -- ---- a key
 
-pub length-key : (key : Key) (front rest : Bytes) → length (bytesIn key front rest) ≡ length (bytes_of key.front front) + length (bytes_of key.rest rest)
+pub length-key : (key : Key) (front rest : Bytes) → length (bytes_in key front rest) ≡ length (bytes_of key.front front) + length (bytes_of key.rest rest)
 length-key key front rest = length-append (bytes_of key.front front) (bytes_of key.rest rest)
 
 -- Each of its parts fits 64 bits.
@@ -30,35 +30,35 @@ key_fits key front rest k =
 
 -- ---- a front and n bytes more
 
-pub front-short : (x f : Bytes) (n : ℕ) → length x ≢ length f + n → frontIs x f n ≡ false
-unfolding frontIs
+pub front-short : (x f : Bytes) (n : ℕ) → length x ≢ length f + n → front_is x f n ≡ false
+unfolding front_is
 front-short x f n h = rw (ne_eqb (length x) (length f + n) h)
 
 -- No front.
-pub front-none : (x f : Bytes) (n : ℕ) → length f ≡ 0 → length x ≡ n → frontIs x f n ≡ true
-unfolding frontIs
+pub front-none : (x f : Bytes) (n : ℕ) → length f ≡ 0 → length x ≡ n → front_is x f n ≡ true
+unfolding front_is
 front-none x [] n z h = rw (eq-eqb (length x) (0 + n) (omega arith))
 front-none x (a ∷ f) n z h = absurd (omega arith)
 
 -- A front of m bytes decides.
-pub front_same : (x f : Bytes) (n m : ℕ) → m ≡ length f → length x ≡ m + n → sameBytes f (take m x) ≡ frontIs x f n
-unfolding frontIs
+pub front_same : (x f : Bytes) (n m : ℕ) → m ≡ length f → length x ≡ m + n → same_bytes f (take m x) ≡ front_is x f n
+unfolding front_is
 front_same x f n m e h = rw (e, eq-eqb (length x) (length f + n) (omega arith))
 
-pub front-facts : (x f : Bytes) (n : ℕ) → frontIs x f n ≡ true → (length x ≡ length f + n) × (f ≡ take (length f) x)
-unfolding frontIs
+pub front-facts : (x f : Bytes) (n : ℕ) → front_is x f n ≡ true → (length x ≡ length f + n) × (f ≡ take (length f) x)
+unfolding front_is
 front-facts x f n e = (
   eqb-true (length x) (length f + n) (and_left (eqb (length x) (length f + n)) _ e),
   bytes-true f (take (length f) x) (and_right (eqb (length x) (length f + n)) _ e),
 )
 
-pub front-own : (f y : Bytes) → frontIs (f ++ y) f (length y) ≡ true
-unfolding frontIs
+pub front-own : (f y : Bytes) → front_is (f ++ y) f (length y) ≡ true
+unfolding front_is
 front-own f y = rw (eq-eqb (length (f ++ y)) (length f + length y) (length-append f y), take-append_seam f y) (bytes_same f)
 
 -- The length of a part of the pages, once it was compared.
 pub front-sized : (pages : Bytes) (at len : ℕ) (f : Bytes) (n : ℕ) → at + len ≤ length pages
-    → frontIs (take (at + len - at) (drop at pages)) f n ≡ true → len ≡ length f + n
+    → front_is (take (at + len - at) (drop at pages)) f n ≡ true → len ≡ length f + n
 front-sized pages at len f n l e =
     let z : length (take (at + len - at) (drop at pages)) ≡ len = simp (length-take, length-drop) (omega arith) in
     sym z ∙ (front-facts (take (at + len - at) (drop at pages)) f n e).0

@@ -1,27 +1,27 @@
 -- Which bytes a key has, and what the comparison with stored bytes answers. Assumes nothing.
 use Rattle.std.specs.Prelude.{◌≡◌, Bool, ◌&&◌, ◌++◌, ℕ, ◌+◌, ◌-◌, ◌^◌, ◌<◌, ◌≤◌, eqb, length, get_or, take}
-use Rattle.slices.specs.Bytes.{Bytes, sameBytes}
-use Rattle.fnv.specs.Fnv.{fnvOf}
+use Rattle.slices.specs.Bytes.{Bytes, same_bytes}
+use Rattle.fnv.specs.Fnv.{fnv_of}
 use Rattle.parts.specs.declared.Mode.{Mode}
 use Rattle.parts.specs.Parts.{bytes_of}
 use Rattle.bytes_key.specs.declared.Key.{Key}
 
 -- A key: the stored bytes of a front, then those of a rest.
-abbrev pub keyBytes : Mode → Bytes → Mode → Bytes → Bytes
-keyBytes mode front mode' rest = bytes_of mode front ++ bytes_of mode' rest
+abbrev pub key_bytes : Mode → Bytes → Mode → Bytes → Bytes
+key_bytes mode front mode' rest = bytes_of mode front ++ bytes_of mode' rest
 
 -- The same by the modes of a key.
-abbrev pub bytesIn : Key → Bytes → Bytes → Bytes
-bytesIn key front rest = keyBytes key.front front key.rest rest
+abbrev pub bytes_in : Key → Bytes → Bytes → Bytes
+bytes_in key front rest = key_bytes key.front front key.rest rest
 
 -- The hash is that of the key's bytes, and their number fits 64 bits.
 pub record IsKey (key : Key) (front rest : Bytes) : Type 0 where
-  pub hashed : key.h ≡ fnvOf (bytesIn key front rest)
-  pub fits : length (bytesIn key front rest) < 2 ^ 64
+  pub hashed : key.h ≡ fnv_of (bytes_in key front rest)
+  pub fits : length (bytes_in key front rest) < 2 ^ 64
 
 -- A stored key is this front and n bytes more.
-unfoldable pub frontIs : Bytes → Bytes → ℕ → Bool
-frontIs stored front n = eqb (length stored) (length front + n) && sameBytes front (take (length front) stored)
+unfoldable pub front_is : Bytes → Bytes → ℕ → Bool
+front_is stored front n = eqb (length stored) (length front + n) && same_bytes front (take (length front) stored)
 
 -- The last b bytes of the rest, without the last a, are the same in the pages, where the rest ends at `end`.
 abbrev pub Agree : Bytes → ℕ → Bytes → ℕ → ℕ → Type 0

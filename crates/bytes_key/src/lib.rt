@@ -4,7 +4,7 @@
 ghost use Rattle.std.specs.Prelude.{◌≡◌, ◌+◌, ◌%◌, ◌^◌, ◌≤◌, ◌<◌, length};
 ghost use Rattle.parts.specs.Parts.{bytes_of};
 ghost use Rattle.layout.specs.Fields.{top_of};
-ghost use Rattle.bytes_key.specs.Keys.{bytesIn, frontIs, Agreeing};
+ghost use Rattle.bytes_key.specs.Keys.{bytes_in, front_is, Agreeing};
 
 use layout::ENTRY_NUMBERS;
 use parts::Mode;
@@ -21,8 +21,8 @@ pub struct Key {
 
 // How many bytes of a page a key takes.
 pub fn key_length(key: Key, front: &[u8], rest: &[u8]) -> usize
-    requires { length (bytesIn key front.now rest.now) < 2 ^ 64 }
-    ensures { result ≡ length (bytesIn key front.now rest.now) }
+    requires { length (bytes_in key front.now rest.now) < 2 ^ 64 }
+    ensures { result ≡ length (bytes_in key front.now rest.now) }
 {
     let mode = key.front;
     let restmode = key.rest;
@@ -58,7 +58,7 @@ pub fn up(j: usize, m: usize) -> usize
 // Whether a stored key begins with the front and has `rest` bytes more. The front's stored length is `measured`.
 pub fn front_is(stored: &[u8], mode: Mode, front: &[u8], measured: usize, rest: usize) -> bool
     requires { measured ≡ length (bytes_of mode front.now) }
-    ensures { result ≡ frontIs stored.now (bytes_of mode front.now) rest }
+    ensures { result ≡ front_is stored.now (bytes_of mode front.now) rest }
 {
     if stored.len() < measured {
         return false;

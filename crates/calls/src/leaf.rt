@@ -1,116 +1,109 @@
 // The leaf rules. Each function makes one call and prints it with its answer, on one line.
-use crate::show;
+use crate::show::{Buffer, Part, Refused};
 use leaf_numbers::{NamedictUnpacked, NamedictValue, NamedictWritten};
+use std::fmt::{Display, Formatter};
+use std::io::Write;
+use std::{fmt, io};
 
-// Prints a rule's name and the part that it is given.
-fn given(rule: &[u8], s: &[u8]) {
-    show::text(rule);
-    show::part(s);
-    show::text(b":");
-}
+#[derive(Clone, Copy)]
+struct Value(NamedictValue);
 
-fn is_text(s: &[u8]) {
-    given(b"is_text", s);
-    show::number(namedict::namedict_is_text(s));
-    show::end();
-}
-
-fn split_iri(s: &[u8]) {
-    given(b"split_iri", s);
-    show::number(namedict::namedict_split_iri(s));
-    show::end();
-}
-
-// No exported rule: the hash with which the search starts.
-fn hash(s: &[u8]) {
-    given(b"fnv", s);
-    show::text(b" ");
-    io::print_hex(1, fnv::fnv(s) as u64, 8);
-    show::end();
-}
-
-fn value(r: NamedictValue) {
-    if r.refusal != 0 {
-        show::refused(r.refusal, r.value | r.length);
-    } else {
-        show::text(b" value");
-        show::number(r.value);
-        show::text(b" length");
-        show::number(r.length);
+impl Display for Value {
+    fn fmt<W: fmt::Write>(&self, f: &mut Formatter<W>) -> fmt::Result {
+        let NamedictValue {
+            refusal,
+            value,
+            length,
+        } = self.0;
+        if refusal != 0 {
+            return write!(f, "{}", Refused(refusal, value | length));
+        }
+        write!(f, " value {value} length {length}")
     }
-    show::end();
 }
 
-fn read_fid(s: &[u8]) {
-    show::text(b"read_fid");
-    show::buffer(s);
-    show::text(b":");
-    value(namedict::namedict_read_fid(s));
-}
+#[derive(Clone, Copy)]
+struct Written(NamedictWritten);
 
-// Prints the buffer after the call.
-fn left(buffer: &[u8]) {
-    show::text(b", buffer");
-    show::buffer(buffer);
-    show::end();
-}
-
-fn room(buffer: &[u8]) {
-    show::text(b" in");
-    show::number(buffer.len() as u64);
-    show::text(b":");
-}
-
-fn written(r: NamedictWritten, buffer: &[u8]) {
-    room(buffer);
-    if r.refusal != 0 {
-        show::refused(r.refusal, r.length);
-    } else {
-        show::text(b" length");
-        show::number(r.length);
+impl Display for Written {
+    fn fmt<W: fmt::Write>(&self, f: &mut Formatter<W>) -> fmt::Result {
+        let NamedictWritten { refusal, length } = self.0;
+        if refusal != 0 {
+            return write!(f, "{}", Refused(refusal, length));
+        }
+        write!(f, " length {length}")
     }
-    left(buffer);
 }
 
-fn unpacked(r: NamedictUnpacked, buffer: &[u8]) {
-    room(buffer);
-    if r.refusal != 0 {
-        show::refused(r.refusal, r.text_len | r.tag_len);
-    } else {
-        show::text(b" lengths");
-        show::number(r.text_len);
-        show::number(r.tag_len);
+#[derive(Clone, Copy)]
+struct Unpacked(NamedictUnpacked);
+
+impl Display for Unpacked {
+    fn fmt<W: fmt::Write>(&self, f: &mut Formatter<W>) -> fmt::Result {
+        let NamedictUnpacked {
+            refusal,
+            text_len,
+            tag_len,
+        } = self.0;
+        if refusal != 0 {
+            return write!(f, "{}", Refused(refusal, text_len | tag_len));
+        }
+        write!(f, " lengths {text_len} {tag_len}")
     }
-    left(buffer);
 }
 
-fn write_fid(value: u64, buffer: &mut [u8]) {
-    show::text(b"write_fid");
-    show::number(value);
-    written(namedict::namedict_write_fid(value, buffer), buffer);
+// The end of a line: an answer, and the buffer after the call.
+fn answered<W: Write, A: Display + Drop>(out: &mut W, answer: A, buffer: &[u8]) -> io::Result<()> {
+    let room = buffer.len();
+    let bytes = Buffer(buffer);
+    writeln!(out, " in {room}:{answer}, buffer{bytes}")
 }
 
-fn pack(text: &[u8], tag: &[u8], buffer: &mut [u8]) {
-    show::text(b"pack");
-    show::part(text);
-    show::part(tag);
-    written(namedict::namedict_pack(text, tag, buffer), buffer);
+fn write_fid<W: Write>(out: &mut W, value: u64, buffer: &mut [u8]) -> io::Result<()> {
+    write!(out, "write_fid {value}")?;
+    let answer = Written(namedict::namedict_write_fid(value, buffer));
+    answered(out, answer, buffer)
 }
 
-fn unpack(packed: &[u8], buffer: &mut [u8]) {
-    show::text(b"unpack");
-    show::part(packed);
-    unpacked(namedict::namedict_unpack(packed, buffer), buffer);
+fn pack<W: Write>(out: &mut W, text: &[u8], tag: &[u8], buffer: &mut [u8]) -> io::Result<()> {
+    write!(out, "pack{}{}", Part(text), Part(tag))?;
+    let answer = Written(namedict::namedict_pack(text, tag, buffer));
+    answered(out, answer, buffer)
 }
 
-pub fn call(op: u8, value: u64, first: &[u8], second: &[u8], buffer: &mut [u8]) {
+fn unpack<W: Write>(out: &mut W, packed: &[u8], buffer: &mut [u8]) -> io::Result<()> {
+    write!(out, "unpack{}", Part(packed))?;
+    let answer = Unpacked(namedict::namedict_unpack(packed, buffer));
+    answered(out, answer, buffer)
+}
+
+// A rule that takes one part and writes nothing.
+fn of_part<W: Write>(out: &mut W, op: u8, s: &[u8]) -> io::Result<()> {
+    let part = Part(s);
     match op {
-        b'T' => is_text(first),
-        b'S' => split_iri(first),
-        b'H' => hash(first),
-        b'R' => read_fid(first),
-        b'W' => write_fid(value, buffer),
-        b'P' => pack(first, second, buffer),
-        _ => unpack(first, buffer),
+        b'T' => writeln!(out, "is_text{part}: {}", namedict::namedict_is_text(s)),
+        b'S' => writeln!(out, "split_iri{part}: {}", namedict::namedict_split_iri(s)),
+        // No exported rule: the hash with which the search starts.
+        b'H' => writeln!(out, "fnv{part}: {:08x}", fnv::fnv(s)),
+        _ => {
+            let answer = Value(namedict::namedict_read_fid(s));
+            writeln!(out, "read_fid{}:{answer}", Buffer(s))
+        }
+    }
+}
+
+pub fn call<W: Write>(
+    out: &mut W,
+    op: u8,
+    value: u64,
+    first: &[u8],
+    second: &[u8],
+    buffer: &mut [u8],
+) -> io::Result<()> {
+    match op {
+        b'W' => write_fid(out, value, buffer),
+        b'P' => pack(out, first, second, buffer),
+        b'U' => unpack(out, first, buffer),
+        _ => of_part(out, op, first),
     }
 }

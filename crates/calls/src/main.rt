@@ -8,10 +8,14 @@ mod run;
 mod script;
 mod show;
 
-fn main() {
-    let mut pages = [0u8; 65536];
-    let mut lists = [0u8; 20416];
-    let mut input = io::large_buffer();
-    let n = io::read_full(0, &mut input);
-    run::run(&input[..n], &mut pages, &mut lists);
+use std::io;
+use std::io::{BufWriter, Read, Write};
+
+fn main(rt: HostRuntime) -> io::Result<()> {
+    let alloc = rt.alloc();
+    let mut input = Vec::new(alloc);
+    rt.stdin().read_to_end(&mut input)?;
+    let mut out = BufWriter::new(alloc, io::writer(&rt))?;
+    run::run(&mut out, alloc, input.as_slice())?;
+    out.flush()
 }

@@ -16,236 +16,236 @@
 //   t TEXT                           prints the text, and no line end
 //   -- TEXT                          a title: prints the line as it is
 // An empty line prints a line end.
-ghost use Rattle.std.specs.Prelude.{◌≤◌, length};
-
-use crate::{call, leaf, script, show};
+use crate::call::Sizes;
+use crate::script::{LONGEST, Name, Words};
+use crate::show::{Counted, Numbered};
+use crate::{call, leaf};
+use std::alloc::{AllocError, Global};
+use std::io;
+use std::io::Write;
 
 // The memory of all calls. Each call is lent a part of it.
-pub type Pages = [u8; 65536];
+const PAGES: usize = 65536;
 
-pub type Lists = [u8; 20416];
+const LISTS: usize = 20416;
 
-// The longest name, packed form and buffer in the lists of calls.
-const LONGEST: usize = 8004;
-
-fn open(s: &[u8], i: usize, pages: &[u8], lists: &mut [u8])
-    requires { i ≤ length s.now }
-{
-    let p = script::number(s, i);
-    let n = script::number(s, p.end);
-    let e = script::number(s, n.end);
-    let w = script::number(s, e.end);
-    let b = script::number(s, w.end);
-    call::open(pages, lists, p.value, n.value, e.value, w.value, b.value);
-}
-
-fn read(s: &[u8], i: usize, pages: &[u8], lists: &[u8])
-    requires { i ≤ length s.now }
-{
-    let mut buffer = [0xAAu8; LONGEST];
-    let number = script::number(s, i);
-    let length = script::number(s, number.end);
-    let n = length.value as usize;
-    if n <= LONGEST {
-        call::read(pages, lists, number.value, &mut buffer[..n]);
+// A buffer of AA; none if it would be longer than any buffer of the lists.
+fn buffer(alloc: Global, length: u64) -> Result<Option<Vec<u8>>, AllocError> {
+    if length > LONGEST as u64 {
+        return Ok(None);
     }
+    let bytes = vec![in alloc; 0xAAu8; length as usize]?;
+    Ok(Some(bytes))
 }
 
-fn beyond(s: &[u8], i: usize, pages: &[u8], lists: &[u8])
-    requires { i ≤ length s.now }
-{
-    let j = script::number(s, i);
-    let k = script::number(s, j.end);
-    call::beyond(pages, j.value as usize, lists, k.value as usize);
-}
-
-// 1 if the number's name is read back into a buffer just long enough, else 0.
-fn right(number: u64, kind: u64, n: usize, both: &[u8], pages: &[u8], lists: &[u8]) -> u64 {
-    let mut buffer = [0xAAu8; LONGEST];
-    let m = both.len();
-    if m <= LONGEST {
-        return call::reads_back(pages, lists, number, kind, n, both, &mut buffer[..m]);
-    }
-    0
-}
-
-// A call with a name.
-fn name<'a>(
-    op: u8,
-    kind: u64,
-    first: &'a [u8],
-    second: &'a [u8],
-    pages: &mut [u8],
+fn open<W: Write>(
+    out: &mut W,
+    words: &mut Words<'_>,
+    pages: &[u8],
     lists: &mut [u8],
-) {
-    match op {
-        b'a' => call::add(pages, lists, kind, first, second),
-        b'f' => call::find(pages, lists, kind, first, second),
-        b'A' => show::numbered(namedict::namedict_add(pages, lists, kind, first, second)),
-        b'q' => {
-            namedict::namedict_add(pages, lists, kind, first, second);
-        }
-        _ => show::text(b"not a call\n"),
+) -> io::Result<()> {
+    let sizes = Sizes {
+        page_width: words.number(),
+        page_count: words.number(),
+        list_length: words.number(),
+        block_width: words.number(),
+        block_count: words.number(),
+    };
+    call::open(out, pages, lists, sizes)
+}
+
+fn read<W: Write>(
+    out: &mut W,
+    alloc: Global,
+    words: &mut Words<'_>,
+    pages: &[u8],
+    lists: &[u8],
+) -> io::Result<()> {
+    let number = words.number();
+    match buffer(alloc, words.number())? {
+        Some(mut bytes) => call::read(out, pages, lists, number, bytes.as_mut_slice()),
+        None => Ok(()),
     }
 }
 
-// A call with a name. Its parts stand one behind the other, and the first has n bytes. Returns how many more are right.
-fn split(
-    op: u8,
+// Whether the number's name is read back into a buffer just long enough.
+fn is_right(
+    alloc: Global,
     number: u64,
-    kind: u64,
-    n: usize,
-    both: &[u8],
-    pages: &mut [u8],
-    lists: &mut [u8],
-) -> u64
-    requires { n ≤ length both.now }
-{
-    if op == b'=' {
-        return right(number, kind, n, both, pages, lists);
+    name: &Name,
+    pages: &[u8],
+    lists: &[u8],
+) -> Result<bool, AllocError> {
+    let length = (name.first.len() as u64).saturating_add(name.second.len() as u64);
+    match buffer(alloc, length)? {
+        Some(mut bytes) => Ok(call::reads_back(pages, lists, number, name, bytes.as_mut_slice())),
+        None => Ok(false),
     }
-    name(op, kind, &both[..n], &both[n..], pages, lists);
-    0
+}
+
+// A line without a name.
+fn numbers<W: Write>(
+    out: &mut W,
+    alloc: Global,
+    op: u8,
+    words: &mut Words<'_>,
+    pages: &[u8],
+    lists: &[u8],
+) -> io::Result<()> {
+    match op {
+        b'r' => read(out, alloc, words, pages, lists),
+        b'b' => {
+            let j = words.number() as usize;
+            let k = words.number() as usize;
+            call::beyond(out, pages, j, lists, k)
+        }
+        b'c' => call::count(out, pages, lists, words.number()),
+        _ => {
+            let answer = namedict::namedict_count(pages, lists, words.number());
+            write!(out, "{}", Counted(answer))
+        }
+    }
 }
 
 // A line with a name.
-fn named(op: u8, s: &[u8], i: usize, pages: &mut [u8], lists: &mut [u8]) -> u64
-    requires { i ≤ length s.now }
-{
-    let mut both = [0u8; LONGEST];
-    let kind = script::number(s, i);
-    let first = script::part(s, kind.end, &mut both, 0);
-    let n = first.value as usize;
-    let second = script::part(s, first.end, &mut both, n);
-    let m = second.value as usize;
-    let number = script::number(s, second.end);
-    split(op, number.value, kind.value, n, &both[..m], pages, lists)
+fn named<W: Write>(
+    out: &mut W,
+    op: u8,
+    name: &Name,
+    pages: &mut [u8],
+    lists: &mut [u8],
+) -> io::Result<()> {
+    match op {
+        b'a' => call::add(out, pages, lists, name),
+        b'f' => call::find(out, pages, lists, name),
+        b'A' => write!(out, "{}", Numbered(call::add_silently(pages, lists, name))),
+        b'q' => {
+            let _ = call::add_silently(pages, lists, name);
+            Ok(())
+        }
+        _ => writeln!(out, "not a call"),
+    }
 }
 
-// A leaf rule. Its two parts stand one behind the other, and the first has n bytes.
-fn leaf_of(op: u8, value: u64, n: usize, both: &[u8], room: usize)
-    requires { n ≤ length both.now }
-{
-    let mut buffer = [0xAAu8; LONGEST];
-    if room <= LONGEST {
-        leaf::call(op, value, &both[..n], &both[n..], &mut buffer[..room]);
+// A line with the memory that is lent to it. Returns how many more are right.
+fn lent<W: Write>(
+    out: &mut W,
+    alloc: Global,
+    op: u8,
+    words: &mut Words<'_>,
+    pages: &mut [u8],
+    lists: &mut [u8],
+) -> io::Result<u64> {
+    match op {
+        b'o' => open(out, words, pages, lists)?,
+        b'r' | b'b' | b'c' | b'C' => numbers(out, alloc, op, words, pages, lists)?,
+        b'=' => {
+            let name = words.name(alloc)?;
+            let right = is_right(alloc, words.number(), &name, pages, lists)?;
+            return Ok(u64::from(right));
+        }
+        _ => named(out, op, &words.name(alloc)?, pages, lists)?,
     }
+    Ok(0)
 }
 
 // A line with a leaf rule: no memory is lent to it.
-fn leaf_in(op: u8, s: &[u8])
-    requires { 2 ≤ length s.now }
-{
-    let mut both = [0u8; LONGEST];
-    let value = script::number(s, 2);
-    let length = script::number(s, value.end);
-    let first = script::part(s, length.end, &mut both, 0);
-    let n = first.value as usize;
-    let second = script::part(s, first.end, &mut both, n);
-    let m = second.value as usize;
-    leaf_of(op, value.value, n, &both[..m], length.value as usize);
-}
-
-// A line without a name. Its words before i are read already.
-fn numbers(op: u8, s: &[u8], i: usize, pages: &[u8], lists: &[u8])
-    requires { i ≤ length s.now }
-{
-    match op {
-        b'r' => read(s, i, pages, lists),
-        b'b' => beyond(s, i, pages, lists),
-        b'c' => {
-            let kind = script::number(s, i);
-            call::count(pages, lists, kind.value);
-        }
-        _ => {
-            let kind = script::number(s, i);
-            show::counted(namedict::namedict_count(pages, lists, kind.value));
-        }
+fn leaf_rule<W: Write>(
+    out: &mut W,
+    alloc: Global,
+    op: u8,
+    words: &mut Words<'_>,
+) -> io::Result<()> {
+    let value = words.number();
+    let length = words.number();
+    let first = words.part(alloc)?;
+    let second = words.part(alloc)?;
+    match buffer(alloc, length)? {
+        Some(mut bytes) => leaf::call(
+            out,
+            op,
+            value,
+            first.as_slice(),
+            second.as_slice(),
+            bytes.as_mut_slice(),
+        ),
+        None => Ok(()),
     }
 }
 
-// A line with the memory that is lent to it. Its words before i are read already.
-fn call_in(op: u8, s: &[u8], i: usize, pages: &mut [u8], lists: &mut [u8]) -> u64
-    requires { i ≤ length s.now }
-{
-    match op {
-        b'o' => {
-            open(s, i, pages, lists);
-            0
-        }
-        b'r' | b'b' | b'c' | b'C' => {
-            numbers(op, s, i, pages, lists);
-            0
-        }
-        _ => named(op, s, i, pages, lists),
-    }
+// Where answers are printed, the memory, and how many names were right since they were last printed.
+#[derive(Drop)]
+struct Runner<'a, W: Write> {
+    out: &'a mut W,
+    alloc: Global,
+    pages: Vec<u8>,
+    lists: Vec<u8>,
+    right: u64,
 }
 
-// A line that has P and L: it is lent memory.
-fn lent(op: u8, s: &[u8], pages: &mut [u8], lists: &mut [u8]) -> u64
-    requires { 2 ≤ length s.now }
-{
-    let p = script::number(s, 2);
-    let l = script::number(s, p.end);
-    let j = p.value as usize;
-    let k = l.value as usize;
-    if j <= pages.len() {
-        if k <= lists.len() {
-            return call_in(op, s, l.end, &mut pages[..j], &mut lists[..k]);
+impl<W: Write> Runner<'_, W> {
+    // A line that has P and L: it is lent memory.
+    fn lend(&mut self, op: u8, words: &mut Words<'_>) -> io::Result<()> {
+        let j = words.number() as usize;
+        let k = words.number() as usize;
+        if j > self.pages.len() || k > self.lists.len() {
+            return Ok(());
         }
+        let pages = &mut self.pages[..j];
+        let lists = &mut self.lists[..k];
+        let more = lent(self.out, self.alloc, op, words, pages, lists)?;
+        self.right = self.right.saturating_add(more);
+        Ok(())
     }
-    0
-}
 
-fn fill(byte: u64, pages: &mut Pages, lists: &mut Lists) {
-    if byte < 256 {
-        script::set(pages, byte as u8);
-        script::set(lists, byte as u8);
+    fn fill(&mut self, byte: u64) {
+        if byte < 256 {
+            self.pages.fill(byte as u8);
+            self.lists.fill(byte as u8);
+        }
     }
-}
 
-// Runs one line. `right` is how many were right before it. Returns how many are right after it.
-fn line(s: &[u8], right: u64, pages: &mut Pages, lists: &mut Lists) -> u64 {
-    if s.len() < 2 {
-        show::end();
-        return right;
-    }
-    match s[0] {
-        b'-' => {
-            show::text(s);
-            show::end();
-            right
+    fn line(&mut self, s: &[u8]) -> io::Result<()> {
+        if s.len() < 2 {
+            return writeln!(self.out);
         }
-        b't' => {
-            show::text(&s[2..]);
-            right
+        let text = &s[2..];
+        let mut words = Words::new(text);
+        match s[0] {
+            b'-' => {
+                self.out.write_all(s)?;
+                writeln!(self.out)
+            }
+            b't' => self.out.write_all(text),
+            b'n' => {
+                self.out.write_all(text)?;
+                let right = self.right;
+                self.right = 0;
+                writeln!(self.out, " {right}")
+            }
+            b'm' => {
+                self.fill(words.number());
+                Ok(())
+            }
+            b'T' | b'S' | b'H' | b'R' | b'W' | b'P' | b'U' => {
+                leaf_rule(self.out, self.alloc, s[0], &mut words)
+            }
+            _ => self.lend(s[0], &mut words),
         }
-        b'n' => {
-            show::text(&s[2..]);
-            show::number(right);
-            show::end();
-            0
-        }
-        b'm' => {
-            let byte = script::number(s, 2);
-            fill(byte.value, pages, lists);
-            right
-        }
-        b'T' | b'S' | b'H' | b'R' | b'W' | b'P' | b'U' => {
-            leaf_in(s[0], s);
-            right
-        }
-        _ => std::num::wrapping_add_u64(right, lent(s[0], s, pages, lists)),
     }
 }
 
 // Runs the lines, one after the other.
-pub fn run(s: &[u8], pages: &mut Pages, lists: &mut Lists) {
-    let mut right = 0;
-    let mut i = 0;
-    while i < s.len() {
-        let end = lines::end_of(s, i, b'\n');
-        right = line(&s[i..end], right, pages, lists);
-        i = end + 1;
+pub fn run<W: Write>(out: &mut W, alloc: Global, input: &[u8]) -> io::Result<()> {
+    let mut runner = Runner {
+        out,
+        alloc,
+        pages: vec![in alloc; 0u8; PAGES]?,
+        lists: vec![in alloc; 0u8; LISTS]?,
+        right: 0,
+    };
+    for line in input.split_inclusive(|b| *b == b'\n') {
+        runner.line(&line[..lines::end_of(line, 0, b'\n')])?;
     }
+    Ok(())
 }

@@ -2,159 +2,124 @@
 // A number is written in hexadecimal, with at most 16 digits.
 // A part is written as its bytes, two digits each. A '*' and a number behind a byte say how often it is repeated. A '.' ends that number if
 // more bytes follow: 612f78*f9e, 68*c8.2f68*c8. A part of no bytes is '-'.
-ghost use Rattle.std.specs.Prelude.{◌≡◌, ◌<◌, ◌≤◌, length};
+ghost use Rattle.std.specs.Prelude.{◌<◌, IfSome};
 
-// The value of a word, and where the next word begins.
-#[derive(Clone, Copy)]
-pub struct Word {
-    pub value: u64,
-    pub end: usize,
+use std::alloc::{AllocError, Global};
+
+// The longest part, packed form and buffer in the lists of calls.
+pub const LONGEST: usize = 8004;
+
+// A name that a call is given.
+#[derive(Drop)]
+pub struct Name {
+    pub kind: u64,
+    pub first: Vec<u8>,
+    pub second: Vec<u8>,
 }
 
-// A byte, how often it is repeated, and where its text in the line ends.
-#[derive(Clone, Copy)]
-struct Run {
-    byte: u8,
-    count: usize,
-    end: usize,
+// The words of a line that are not read yet.
+#[derive(Drop)]
+pub struct Words<'a> {
+    rest: &'a [u8],
 }
 
-// A digit's value; 16 for any other byte.
-fn digit(b: u8) -> u64
-    ensures { result ≤ 16 }
+impl<'a> Words<'a> {
+    pub fn new(line: &'a [u8]) -> Words<'a> {
+        Words { rest: line }
+    }
+
+    // The next word. Behind the last one there are words of no bytes.
+    fn word(&mut self) -> &'a [u8] {
+        let line = self.rest;
+        let end = lines::end_of(line, 0, b' ');
+        self.rest = &line[lines::behind(line, end)..];
+        &line[..end]
+    }
+
+    pub fn number(&mut self) -> u64 {
+        number(self.word())
+    }
+
+    pub fn part(&mut self, alloc: Global) -> Result<Vec<u8>, AllocError> {
+        part(alloc, self.word())
+    }
+
+    pub fn name(&mut self, alloc: Global) -> Result<Name, AllocError> {
+        let kind = self.number();
+        let first = self.part(alloc)?;
+        let second = self.part(alloc)?;
+        Ok(Name {
+            kind,
+            first,
+            second,
+        })
+    }
+}
+
+// A digit's value.
+fn digit(b: u8) -> Option<u8>
+    ensures { IfSome result (λ d. d < 16) }
 {
-    if b >= b'a' {
-        if b <= b'f' {
-            return (b - b'a') as u64 + 10;
-        }
-        return 16;
+    match b {
+        b'0'..=b'9' => Some(b - b'0'),
+        b'a'..=b'f' => Some(b - b'a' + 10),
+        _ => None,
     }
-    if b >= b'0' {
-        if b <= b'9' {
-            return (b - b'0') as u64;
-        }
-    }
-    16
 }
 
 // A number below this has room for one more digit.
-const ROOM: u64 = 1152921504606846976;
+const ROOM: u64 = 1 << 60;
 
-// The number that begins at i, and where it ends.
-fn digits(s: &[u8], i: usize) -> Word
-    requires { i ≤ length s.now }
-    ensures { (i ≤ result.end) × (result.end ≤ length s.now) }
-{
+// The number that the digits at the front of a word make.
+fn number(word: &[u8]) -> u64 {
     let mut value = 0;
-    let mut k = i;
-    while k < s.len() {
-        let d = digit(s[k]);
-        if d > 15 {
-            break;
-        }
-        if value >= ROOM {
-            break;
-        }
-        value = value * 16 + d;
-        k += 1;
-    }
-    Word { value, end: k }
-}
-
-// The number that begins at i. The byte behind it is passed over.
-pub fn number(s: &[u8], i: usize) -> Word
-    requires { i ≤ length s.now }
-    ensures { (i ≤ result.end) × (result.end ≤ length s.now) }
-{
-    let x = digits(s, i);
-    Word {
-        value: x.value,
-        end: lines::behind(s, x.end),
-    }
-}
-
-fn no_byte(end: usize) -> Run
-    ensures { result.end ≡ end }
-{
-    Run {
-        byte: 0,
-        count: 0,
-        end,
-    }
-}
-
-// The byte whose text begins at k. If there is none, it is repeated 0 times.
-fn run_at(s: &[u8], k: usize) -> Run
-    requires { k < length s.now }
-    ensures { (k < result.end) × (result.end ≤ length s.now) }
-{
-    if s.len() - k < 2 {
-        return no_byte(k + 1);
-    }
-    let high = digit(s[k]);
-    let low = digit(s[k + 1]);
-    if high > 15 {
-        return no_byte(k + 1);
-    }
-    if low > 15 {
-        return no_byte(k + 1);
-    }
-    let byte = (high * 16 + low) as u8;
-    let end = k + 2;
-    if end < s.len() {
-        if s[end] == b'*' {
-            let x = number(s, end + 1);
-            return Run {
-                byte,
-                count: x.value as usize,
-                end: x.end,
-            };
+    for b in word {
+        match digit(*b) {
+            Some(d) if value < ROOM => value = value * 16 + u64::from(d),
+            _ => break,
         }
     }
-    Run {
-        byte,
-        count: 1,
-        end,
-    }
+    value
 }
 
-// Fills s with this byte.
-pub fn set(s: &mut [u8], byte: u8) {
-    let mut i = 0;
-    while i < s.len() {
-        s[i] = byte;
-        i += 1;
-    }
+// The byte that two digits write.
+fn byte(high: u8, low: u8) -> Option<u8> {
+    let high = digit(high)?;
+    let low = digit(low)?;
+    Some(high * 16 + low)
 }
 
-// Puts a byte `count` times behind the first n bytes, or not at all if there is too little room. Returns how many bytes there are then.
-fn put(out: &mut [u8], n: usize, byte: u8, count: usize) -> usize
-    requires { n ≤ length out.old }
-    ensures { (n ≤ result) × (result ≤ length out.old) }
-{
-    if count > out.len() - n {
-        return n;
+// The bytes of a part.
+fn part(alloc: Global, word: &[u8]) -> Result<Vec<u8>, AllocError> {
+    let mut bytes = Vec::new(alloc);
+    for piece in word.split(|b| *b == b'.') {
+        append(&mut bytes, piece)?;
     }
-    let end = n + count;
-    set(&mut out[n..end], byte);
-    end
+    Ok(bytes)
 }
 
-// Puts the part that begins at i behind the first n bytes. Returns how many bytes there are then, and where the next word begins.
-pub fn part(s: &[u8], i: usize, out: &mut [u8], n: usize) -> Word
-    requires { (i ≤ length s.now) × (n ≤ length out.old) }
-    ensures { (n ≤ result.value) × (result.value ≤ length out.old) × (result.end ≤ length s.now) }
-{
-    let end = lines::end_of(s, i, b' ');
-    let mut m = n;
-    let mut k = i;
-    while k < end {
-        let x = run_at(s, k);
-        m = put(out, m, x.byte, x.count);
-        k = x.end;
+// Appends the bytes of a piece, of which the last may be repeated.
+fn append(bytes: &mut Vec<u8>, piece: &[u8]) -> Result<(), AllocError> {
+    let star = lines::end_of(piece, 0, b'*');
+    for pair in piece[..star].chunks_exact(2) {
+        if let Some(b) = byte(pair[0], pair[1]) {
+            bytes.push(b)?;
+        }
     }
-    Word {
-        value: m as u64,
-        end: lines::behind(s, end),
+    if star < piece.len() {
+        repeat(bytes, number(&piece[star + 1..]))?;
     }
+    Ok(())
+}
+
+// Repeats the last byte, so that it is there `count` times. A part that would be longer than any part of the lists loses the byte.
+fn repeat(bytes: &mut Vec<u8>, count: u64) -> Result<(), AllocError> {
+    let Some(last) = bytes.pop() else {
+        return Ok(());
+    };
+    let before = bytes.len();
+    if before <= LONGEST && count <= (LONGEST - before) as u64 {
+        bytes.resize(before + count as usize, last)?;
+    }
+    Ok(())
 }

@@ -1,158 +1,144 @@
-// Printing: numbers, parts of names, buffers, answers.
+// How parts of names, buffers and answers are printed. Each begins with a space.
 use numbers::{NamedictCounted, NamedictName, NamedictNumbered};
+use std::fmt;
+use std::fmt::{Display, Formatter};
 
-// How bytes are printed: as they are between quotes, in hexadecimal, or as runs of equal bytes.
+// More bytes than this are printed as runs of equal bytes.
+const MOST_BYTES: usize = 48;
+
+// A byte as a character. A quote, a '\' and a byte that is no printable ASCII character are printed as \x and two digits.
 #[derive(Clone, Copy)]
-enum How {
-    Quoted,
-    Hex,
-    Runs,
+struct Character(u8);
+
+impl Display for Character {
+    fn fmt<W: fmt::Write>(&self, f: &mut Formatter<W>) -> fmt::Result {
+        match self.0 {
+            b'"' | b'\\' | 0..0x20 | 0x7F.. => write!(f, "\\x{:02x}", self.0),
+            _ => write!(f, "{}", char::from(self.0)),
+        }
+    }
 }
 
-// A run of equal bytes that is not printed yet.
+// Bytes as runs: how often, and which byte.
 #[derive(Clone, Copy)]
-struct Run {
-    byte: u8,
-    count: u64,
-}
+struct Runs<'a>(&'a [u8]);
 
-pub fn text(s: &[u8]) {
-    io::write_all(1, s);
-}
-
-pub fn end() {
-    io::write_all(1, b"\n");
-}
-
-pub fn number(n: u64) {
-    io::write_all(1, b" ");
-    io::print_decimal(1, n);
-}
-
-// Prints a byte as a character. A quote, a '\' and a byte that is no printable ASCII character are printed as \x and two digits.
-fn character(b: u8) {
-    if b < 0x20 || b > 0x7E || b == b'"' || b == b'\\' {
-        io::write_all(1, b"\\x");
-        io::print_hex(1, b as u64, 2);
-    } else {
-        io::write_all(1, &[b]);
-    }
-}
-
-fn run_out(run: Run) {
-    if run.count > 0 {
-        number(run.count);
-        io::write_all(1, b" x '");
-        character(run.byte);
-        io::write_all(1, b"'");
-    }
-}
-
-fn longer(run: Run, b: u8) -> Run {
-    if run.byte == b {
-        return Run {
-            byte: b,
-            count: std::num::wrapping_add_u64(run.count, 1),
-        };
-    }
-    run_out(run);
-    Run { byte: b, count: 1 }
-}
-
-fn step(how: How, run: Run, b: u8) -> Run {
-    match how {
-        How::Quoted => {
-            character(b);
-            run
+impl Display for Runs<'_> {
+    fn fmt<W: fmt::Write>(&self, f: &mut Formatter<W>) -> fmt::Result {
+        for run in self.0.chunk_by(|a, b| *a == *b) {
+            if let Some(b) = run.first() {
+                write!(f, " {} x '{}'", run.len(), Character(*b))?;
+            }
         }
-        How::Hex => {
-            io::write_all(1, b" ");
-            io::print_hex(1, b as u64, 2);
-            run
+        Ok(())
+    }
+}
+
+// A part of a name: its characters between quotes.
+#[derive(Clone, Copy)]
+pub struct Part<'a>(pub &'a [u8]);
+
+impl Display for Part<'_> {
+    fn fmt<W: fmt::Write>(&self, f: &mut Formatter<W>) -> fmt::Result {
+        if self.0.len() > MOST_BYTES {
+            return write!(f, "{}", Runs(self.0));
         }
-        How::Runs => longer(run, b),
+        f.write_str(" \"")?;
+        for b in self.0 {
+            write!(f, "{}", Character(*b))?;
+        }
+        f.write_str("\"")
     }
 }
 
-fn all(how: How, s: &[u8]) {
-    let mut run = Run { byte: 0, count: 0 };
-    let mut i = 0;
-    while i < s.len() {
-        run = step(how, run, s[i]);
-        i += 1;
+// A buffer with all its bytes, in hexadecimal.
+#[derive(Clone, Copy)]
+pub struct Buffer<'a>(pub &'a [u8]);
+
+impl Display for Buffer<'_> {
+    fn fmt<W: fmt::Write>(&self, f: &mut Formatter<W>) -> fmt::Result {
+        if self.0.len() > MOST_BYTES {
+            return write!(f, "{}", Runs(self.0));
+        }
+        for b in self.0 {
+            write!(f, " {b:02x}")?;
+        }
+        Ok(())
     }
-    run_out(run);
 }
 
-// Prints a part of a name.
-pub fn part(s: &[u8]) {
-    if s.len() > 48 {
-        all(How::Runs, s);
+// A refusal and the numbers beside it. They should be 0; if they are not, that is printed.
+#[derive(Clone, Copy)]
+pub struct Refused(pub u64, pub u64);
+
+impl Display for Refused {
+    fn fmt<W: fmt::Write>(&self, f: &mut Formatter<W>) -> fmt::Result {
+        write!(f, " refused {}{}", self.0, beside(self.1))
+    }
+}
+
+// What is said of the numbers that should be 0.
+fn beside(others: u64) -> &'static str {
+    if others == 0 {
+        ""
     } else {
-        io::write_all(1, b" \"");
-        all(How::Quoted, s);
-        io::write_all(1, b"\"");
+        " with other numbers"
     }
 }
 
-// Prints a buffer with all its bytes.
-pub fn buffer(s: &[u8]) {
-    if s.len() > 48 {
-        all(How::Runs, s);
-    } else {
-        all(How::Hex, s);
+#[derive(Clone, Copy)]
+pub struct Numbered(pub NamedictNumbered);
+
+impl Display for Numbered {
+    fn fmt<W: fmt::Write>(&self, f: &mut Formatter<W>) -> fmt::Result {
+        let NamedictNumbered {
+            refusal,
+            word,
+            number,
+        } = self.0;
+        if refusal != 0 {
+            return write!(f, "{}", Refused(refusal, word | number));
+        }
+        match word {
+            1 => write!(f, " fresh {number}"),
+            2 => write!(f, " known {number}"),
+            _ => write!(f, " none{}", beside(word | number)),
+        }
     }
 }
 
-// Prints a refusal. It should have no other number beside it; if it has, that is printed.
-pub fn refused(why: u64, others: u64) {
-    io::write_all(1, b" refused");
-    number(why);
-    if others != 0 {
-        io::write_all(1, b" with other numbers");
+#[derive(Clone, Copy)]
+pub struct Found(pub NamedictName);
+
+impl Display for Found {
+    fn fmt<W: fmt::Write>(&self, f: &mut Formatter<W>) -> fmt::Result {
+        let NamedictName {
+            refusal,
+            word,
+            kind,
+            first_len,
+            second_len,
+        } = self.0;
+        let others = kind | first_len | second_len;
+        if refusal != 0 {
+            write!(f, "{}", Refused(refusal, word | others))
+        } else if word == 4 {
+            write!(f, " kind {kind} lengths {first_len} {second_len}")
+        } else {
+            write!(f, " none{}", beside(word | others))
+        }
     }
 }
 
-pub fn numbered(r: NamedictNumbered) {
-    if r.refusal != 0 {
-        refused(r.refusal, r.word | r.number);
-    } else if r.word == 1 {
-        io::write_all(1, b" fresh");
-        number(r.number);
-    } else if r.word == 2 {
-        io::write_all(1, b" known");
-        number(r.number);
-    } else {
-        nothing(r.word | r.number);
-    }
-}
+#[derive(Clone, Copy)]
+pub struct Counted(pub NamedictCounted);
 
-fn nothing(others: u64) {
-    io::write_all(1, b" none");
-    if others != 0 {
-        io::write_all(1, b" with other numbers");
-    }
-}
-
-pub fn name(r: NamedictName) {
-    let others = r.kind | r.first_len | r.second_len;
-    if r.refusal != 0 {
-        refused(r.refusal, r.word | others);
-    } else if r.word == 4 {
-        io::write_all(1, b" kind");
-        number(r.kind);
-        io::write_all(1, b" lengths");
-        number(r.first_len);
-        number(r.second_len);
-    } else {
-        nothing(r.word | others);
-    }
-}
-
-pub fn counted(r: NamedictCounted) {
-    if r.refusal != 0 {
-        refused(r.refusal, r.count);
-    } else {
-        number(r.count);
+impl Display for Counted {
+    fn fmt<W: fmt::Write>(&self, f: &mut Formatter<W>) -> fmt::Result {
+        let NamedictCounted { refusal, count } = self.0;
+        if refusal != 0 {
+            return write!(f, "{}", Refused(refusal, count));
+        }
+        write!(f, " {count}")
     }
 }

@@ -1,17 +1,22 @@
 // Holds one numbering against another, the base, which is read before it. A line is a number, a space and a name; `fresh` or `known` may stand before it.
-// The names of both are put into a dictionary whose numbers are below 65,536. For each name `base_lines` has its line in the base, and 0 once the other
-// numbering has the name too. `numbers` has the number that the last line with the name gave.
-ghost use Rattle.std.specs.Prelude.{◌≤◌, length};
-
-use crate::dictionary::{Lists, NUMBERS, Numbers, Pages};
-use crate::line::Decimal;
+// The names of both are put into a dictionary whose numbers are below 65,536. For each name there is an entry.
+use crate::input::Task;
+use crate::line::Name;
+use crate::names_in_memory::{Added, Blocks, Names};
 use crate::report::Tally;
-use crate::{dictionary, line, number, report};
+use crate::{line, number, report};
+use std::alloc::{AllocError, Global};
+use std::io;
+use std::io::Write;
 
 // Each kind has one block of 16,384 numbers: a list holds no more names.
-const WIDTH: u64 = 14;
+const BLOCKS: Blocks = Blocks {
+    width: 14,
+    count: 4,
+};
 
-const COUNT: u64 = 4;
+// The dictionary's numbers are below this.
+const NUMBERS: usize = 65536;
 
 // What the lines of a file are: those of the base, or lines that are held against it, to tell what differs or to tell each name's two numbers.
 #[derive(Clone, Copy)]
@@ -21,292 +26,216 @@ pub enum Role {
     Paired,
 }
 
-pub fn start(pages: &Pages, lists: &mut Lists, base_lines: &mut Numbers) {
-    dictionary::open(pages, lists, WIDTH, COUNT);
-    let mut i = 0;
-    while i < NUMBERS {
-        base_lines[i] = 0;
-        i += 1;
+// What is known of a name: the number that the last line with it gave, and its line in the base, until the other numbering has the name too.
+#[derive(Clone, Copy)]
+struct Entry {
+    number: u64,
+    base_line: Option<u64>,
+}
+
+// Two numberings, of which the base is read first.
+#[derive(Drop)]
+pub struct Held<'a> {
+    names: &'a mut Names,
+    entries: Vec<Entry>,
+    pub role: Role,
+}
+
+impl<'a> Held<'a> {
+    pub fn new(alloc: Global, names: &'a mut Names) -> Result<Held<'a>, AllocError> {
+        let entry = Entry {
+            number: 0,
+            base_line: None,
+        };
+        let entries = vec![in alloc; entry; NUMBERS]?;
+        let _ = names.open(BLOCKS);
+        Ok(Held {
+            names,
+            entries,
+            role: Role::Base,
+        })
+    }
+
+    // Prints what is known once both are compared.
+    pub fn tell_compared<W: Write>(&self, out: &mut W, base: &Tally, t: &Tally) -> io::Result<()> {
+        if let Some(i) = self.first_missing() {
+            self.missing(out, "first only in the first: ", i)?;
+        }
+        let missing = self.count_missing();
+        let Tally {
+            agree,
+            differ,
+            added,
+            refused,
+            ..
+        } = *t;
+        write!(out, "# {agree} agree, {differ} differ, ")?;
+        write!(
+            out,
+            "{missing} only in the first, {added} only in the second; "
+        )?;
+        writeln!(out, "lines refused: {} and {refused}", base.refused)
+    }
+
+    // Prints what is known once both are paired. The base is the second of them.
+    pub fn tell_paired<W: Write>(&self, out: &mut W, base: &Tally, t: &Tally) -> io::Result<()> {
+        for (i, entry) in self.entries.iter().enumerate() {
+            if entry.base_line.is_some() {
+                self.missing(out, "# only in the second: ", i)?;
+            }
+        }
+        let missing = self.count_missing();
+        let Tally {
+            agree,
+            added,
+            refused,
+            ..
+        } = *t;
+        write!(out, "# {agree} in both, ")?;
+        write!(
+            out,
+            "{added} only in the first, {missing} only in the second; "
+        )?;
+        writeln!(out, "lines refused: {refused} and {}", base.refused)
+    }
+
+    // Which entry is that of the first name that only the base has.
+    fn first_missing(&self) -> Option<usize> {
+        let mut first = None;
+        let mut least = u64::MAX;
+        for (i, entry) in self.entries.iter().enumerate() {
+            if let Some(line) = entry.base_line
+                && line < least
+            {
+                least = line;
+                first = Some(i);
+            }
+        }
+        first
+    }
+
+    // How many names only the base has.
+    fn count_missing(&self) -> usize {
+        self.entries
+            .iter()
+            .filter(|entry| entry.base_line.is_some())
+            .count()
+    }
+
+    // Prints the number and the name of an entry, whose name only the base has.
+    fn missing<W: Write>(&self, out: &mut W, before: &str, i: usize) -> io::Result<()> {
+        let Some(entry) = self.entries.get(i) else {
+            return Ok(());
+        };
+        write!(out, "{before}{} ", entry.number)?;
+        number::print_name(out, self.names, i as u64)?;
+        writeln!(out)
     }
 }
 
-// The number of a line. It ends where the name begins.
-fn numbered(s: &[u8]) -> Decimal
-    ensures { result.end ≤ length s.now }
-{
-    if s.len() > 6 {
-        if line::is(&s[..6], b"fresh ") || line::is(&s[..6], b"known ") {
-            return line::word(s, 6);
+impl Task for Held<'_> {
+    fn line<W: Write>(&mut self, out: &mut W, tally: &mut Tally, s: &[u8]) -> io::Result<()> {
+        let Some((given, name)) = given_by(s) else {
+            return report::passed_over(out, tally, "not a number, a space and a name");
+        };
+        let (i, new) = match self.names.add(name) {
+            Added::Fresh(i) => (i as usize, true),
+            Added::Known(i) => (i as usize, false),
+            Added::Refused(refusal) => return report::refused(out, tally, refusal),
+        };
+        let Some(entry) = self.entries.get_mut(i) else {
+            return Ok(());
+        };
+        let before = *entry;
+        entry.number = given.number;
+        entry.base_line = match self.role {
+            Role::Base if new => Some(tally.line),
+            Role::Base => before.base_line,
+            Role::Compared | Role::Paired => None,
+        };
+        if new {
+            fresh(out, self.role, tally, given)
+        } else {
+            known(out, self.role, tally, before, given)
         }
     }
-    line::word(s, 0)
 }
 
-// Prints a number and the name that has it.
-fn pair(before: &[u8], value: u64, s: &[u8]) {
-    report::text(before);
-    report::number(value);
-    report::text(b" ");
-    report::text(s);
-    report::text(b"\n");
+// The number that a line gives to a name, and the name as it stands there.
+#[derive(Clone, Copy)]
+struct Given<'a> {
+    number: u64,
+    text: &'a [u8],
 }
 
-fn difference(one: u64, two: u64, s: &[u8]) {
-    report::text(b"first difference: ");
-    report::number(one);
-    report::text(b" in the first, ");
-    report::number(two);
-    report::text(b" in the second: ");
-    report::text(s);
-    report::text(b"\n");
-}
-
-// Prints a name's number in the first numbering, its number in the second, and the name.
-fn two_numbers(one: u64, two: u64, s: &[u8]) {
-    report::number(one);
-    report::text(b" ");
-    pair(b"", two, s);
-}
-
-// A name of the numbering that is compared, which the base does not have.
-fn added(t: Tally, value: u64, s: &[u8]) {
-    if t.added == 0 {
-        pair(b"first only in the second: ", value, s);
+impl Given<'_> {
+    fn print<W: Write>(self, out: &mut W, before: &str) -> io::Result<()> {
+        report::number_and_line(out, before, self.number, self.text)
     }
+}
+
+fn given_by(s: &[u8]) -> Option<(Given<'_>, Name<'_>)> {
+    let behind_word = s
+        .strip_prefix(b"fresh ")
+        .or_else(|| s.strip_prefix(b"known "));
+    let (number, text) = line::numbered(behind_word.unwrap_or(s))?;
+    Some((Given { number, text }, line::name_of(text)?))
 }
 
 // A name that neither had before.
-fn fresh(t: Tally, role: Role, value: u64, s: &[u8]) -> Tally {
-    let mut t = t;
+fn fresh<W: Write>(out: &mut W, role: Role, tally: &mut Tally, given: Given<'_>) -> io::Result<()> {
     match role {
-        Role::Base => {
-            return t;
-        }
-        Role::Compared => added(t, value, s),
-        Role::Paired => pair(b"# only in the first: ", value, s),
+        Role::Base => return Ok(()),
+        Role::Compared if tally.added == 0 => given.print(out, "first only in the second: ")?,
+        Role::Compared => {}
+        Role::Paired => given.print(out, "# only in the first: ")?,
     }
-    t.added = report::one_more(t.added);
-    t
+    report::count(&mut tally.added);
+    Ok(())
 }
 
-// A name of the base that the numbering compared has now for the first time.
-fn compared(t: Tally, one: u64, two: u64, s: &[u8]) -> Tally {
-    let mut t = t;
-    if one == two {
-        t.agree = report::one_more(t.agree);
-        return t;
-    }
-    if t.differ == 0 {
-        difference(one, two, s);
-    }
-    t.differ = report::one_more(t.differ);
-    t
-}
-
-// The same of two numberings that are paired. The base is the second of them.
-fn paired(t: Tally, one: u64, two: u64, s: &[u8]) -> Tally {
-    let mut t = t;
-    two_numbers(two, one, s);
-    t.agree = report::one_more(t.agree);
-    t
-}
-
-// A name that the same numbering had before.
-fn again(t: Tally, one: u64, two: u64, s: &[u8]) -> Tally {
-    if one != two {
-        pair(b"# twice, now with ", two, s);
-    }
-    t
-}
-
-// Counts a line that gives the number `two` to a name whose last line gave `one`. `line` is the name's line in the base.
-fn met(t: Tally, role: Role, line: u64, one: u64, two: u64, s: &[u8]) -> Tally {
-    if line == 0 {
-        return again(t, one, two, s);
-    }
-    match role {
-        Role::Base => again(t, one, two, s),
-        Role::Compared => compared(t, one, two, s),
-        Role::Paired => paired(t, one, two, s),
-    }
-}
-
-// The line that is kept of a name's lines in the base. 0: the other numbering has the name too.
-fn kept_line(role: Role, new: bool, line: u64, now: u64) -> u64 {
-    match role {
-        Role::Base => { if new { now } else { line } }
-        Role::Compared => 0,
-        Role::Paired => 0,
-    }
-}
-
-// A line gives the number `value` to the name s, which has the number i in the dictionary. `new`: no line gave it one before.
-fn say(
-    t: Tally,
+// A name that one of them had before.
+fn known<W: Write>(
+    out: &mut W,
     role: Role,
-    new: bool,
-    i: usize,
-    value: u64,
-    s: &[u8],
-    numbers: &mut Numbers,
-    base_lines: &mut Numbers,
-) -> Tally {
-    if i >= NUMBERS {
-        return t;
-    }
-    let one = numbers[i];
-    let line = base_lines[i];
-    numbers[i] = value;
-    base_lines[i] = kept_line(role, new, line, t.line);
-    if new {
-        return fresh(t, role, value, s);
-    }
-    met(t, role, line, one, value, s)
-}
-
-// A line of a numbering.
-pub fn line_of(
-    role: Role,
-    t: Tally,
-    s: &[u8],
-    pages: &mut Pages,
-    lists: &mut Lists,
-    numbers: &mut Numbers,
-    base_lines: &mut Numbers,
-) -> Tally {
-    let n = numbered(s);
-    let end = n.end;
-    let x = line::name_at(s, end);
-    if !n.found || !x.found {
-        return report::passed_over(t, b"not a number, a space and a name");
-    }
-    let first = x.first;
-    let tab = x.tab;
-    let behind = x.second;
-    let r = namedict::namedict_add(pages, lists, x.kind, &s[first..tab], &s[behind..]);
-    if r.refusal != 0 {
-        return report::refused(t, r.refusal);
-    }
-    say(
-        t,
-        role,
-        r.word == 1,
-        r.number as usize,
-        n.value,
-        &s[end..],
-        numbers,
-        base_lines,
-    )
-}
-
-// The dictionary's number of the first name that only the base has; NUMBERS if there is none.
-fn missing(base_lines: &Numbers) -> usize {
-    let mut least = 0;
-    let mut found = NUMBERS;
-    let mut i = 0;
-    while i < NUMBERS {
-        let l = base_lines[i];
-        if l != 0 && (least == 0 || l < least) {
-            least = l;
-            found = i;
+    tally: &mut Tally,
+    before: Entry,
+    given: Given<'_>,
+) -> io::Result<()> {
+    let in_base = before.base_line.is_some();
+    match role {
+        Role::Compared if in_base => compared(out, tally, before.number, given),
+        Role::Paired if in_base => {
+            report::count(&mut tally.agree);
+            write!(out, "{} ", given.number)?;
+            report::number_and_line(out, "", before.number, given.text)
         }
-        i += 1;
-    }
-    found
-}
-
-fn how_many(base_lines: &Numbers) -> u64 {
-    let mut n = 0;
-    let mut i = 0;
-    while i < NUMBERS {
-        if base_lines[i] != 0 {
-            n = report::one_more(n);
-        }
-        i += 1;
-    }
-    n
-}
-
-// Prints the number of a name in the base, and the name.
-fn base_name(before: &[u8], i: usize, pages: &Pages, lists: &Lists, numbers: &Numbers) {
-    if i < NUMBERS {
-        report::text(before);
-        report::number(numbers[i]);
-        report::text(b" ");
-        number::name_of(i as u64, pages, lists);
-        report::text(b"\n");
+        // The same numbering had it before.
+        _ if before.number != given.number => given.print(out, "# twice, now with "),
+        _ => Ok(()),
     }
 }
 
-// The same as a remark: the second numbering is the base, and the first does not have the name.
-fn paired_missing(i: usize, pages: &Pages, lists: &Lists, numbers: &Numbers) {
-    base_name(b"# only in the second: ", i, pages, lists, numbers);
-}
-
-// Prints each name that only the base has, kind by kind.
-fn all_missing(pages: &Pages, lists: &Lists, numbers: &Numbers, base_lines: &Numbers) {
-    let mut i = 0;
-    while i < NUMBERS {
-        if base_lines[i] != 0 {
-            paired_missing(i, pages, lists, numbers);
-        }
-        i += 1;
+// A name that the numbering compared has now for the first time, and that has the number `base` in the base.
+fn compared<W: Write>(
+    out: &mut W,
+    tally: &mut Tally,
+    base: u64,
+    given: Given<'_>,
+) -> io::Result<()> {
+    let Given { number, text } = given;
+    if base == number {
+        report::count(&mut tally.agree);
+        return Ok(());
     }
-}
-
-// Prints the first name that only the base has.
-fn first_missing(pages: &Pages, lists: &Lists, numbers: &Numbers, base_lines: &Numbers) {
-    base_name(
-        b"first only in the first: ",
-        missing(base_lines),
-        pages,
-        lists,
-        numbers,
-    );
-}
-
-// A count, and what is counted.
-fn counted(n: u64, what: &[u8]) {
-    report::number(n);
-    report::text(what);
-}
-
-// Prints what is known once both are compared. `refused`: how many lines of the base were refused.
-pub fn end(
-    refused: u64,
-    t: Tally,
-    pages: &Pages,
-    lists: &Lists,
-    numbers: &Numbers,
-    base_lines: &Numbers,
-) {
-    first_missing(pages, lists, numbers, base_lines);
-    report::text(b"# ");
-    counted(t.agree, b" agree, ");
-    counted(t.differ, b" differ, ");
-    counted(how_many(base_lines), b" only in the first, ");
-    counted(t.added, b" only in the second; lines refused: ");
-    counted(refused, b" and ");
-    counted(t.refused, b"\n");
-}
-
-// Prints what is known once both are paired.
-pub fn end_paired(
-    refused: u64,
-    t: Tally,
-    pages: &Pages,
-    lists: &Lists,
-    numbers: &Numbers,
-    base_lines: &Numbers,
-) {
-    all_missing(pages, lists, numbers, base_lines);
-    report::text(b"# ");
-    counted(t.agree, b" in both, ");
-    counted(t.added, b" only in the first, ");
-    counted(
-        how_many(base_lines),
-        b" only in the second; lines refused: ",
-    );
-    counted(t.refused, b" and ");
-    counted(refused, b"\n");
+    if tally.differ == 0 {
+        write!(
+            out,
+            "first difference: {base} in the first, {number} in the second: "
+        )?;
+        out.write_all(text)?;
+        writeln!(out)?;
+    }
+    report::count(&mut tally.differ);
+    Ok(())
 }

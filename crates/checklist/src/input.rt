@@ -1,261 +1,106 @@
 // The lines of a file, read through a buffer: no file is too long.
-ghost use Rattle.std.specs.Prelude.{◌<◌, ◌≤◌, length};
+use crate::report;
+use crate::report::{Refusal, Tally};
+use std::alloc::Global;
+use std::io;
+use std::io::{BufRead, BufReader, Read, Write};
 
-use crate::compare::Role;
-use crate::dictionary::{Lists, Numbers, Pages};
-use crate::report::Tally;
-use crate::{compare, line, number, report};
+// What is done with each line of a file.
+pub trait Task {
+    // Prints what a line gives, and counts it.
+    fn line<W: Write>(&mut self, out: &mut W, tally: &mut Tally, s: &[u8]) -> io::Result<()>;
+}
 
-// What to do with a line: number its name, read its number back, or take it as a line of one of two numberings.
+// A line with its end has at most as many bytes as the buffer.
+const LONGEST: usize = 65536;
+
+// What is read next.
 #[derive(Clone, Copy)]
-pub enum Task {
-    Number,
-    Read,
-    Hold(Role),
+enum Next {
+    Line,
+    TooLong,
+    End,
 }
 
-// The end of a line without each '\r' before the '\n', which some editors put there.
-fn trimmed(s: &[u8]) -> usize
-    ensures { result ≤ length s.now }
-{
-    let mut n = s.len();
-    while n > 0 {
-        if s[n - 1] != b'\r' {
-            return n;
-        }
-        n -= 1;
+// Reads the next line without its end. Of one that is too long only the front is kept.
+fn read_next<R: BufRead>(lines: &mut R, line: &mut Vec<u8>) -> io::Result<Next> {
+    line.clear();
+    let n = lines.by_ref().take(LONGEST as u64).read_until(b'\n', line)?;
+    if n == 0 {
+        return Ok(Next::End);
     }
-    n
+    if line.last() == Some(&b'\n') {
+        let _ = line.pop();
+        return Ok(Next::Line);
+    }
+    if n < LONGEST {
+        return Ok(Next::Line);
+    }
+    lines.skip_until(b'\n')?;
+    Ok(Next::TooLong)
 }
 
-// Where a line of n bytes starts: behind the three bytes that some editors put at a file's start to mark it as UTF-8.
-fn start(line: u64, s: &[u8], n: usize) -> usize
-    requires { n ≤ length s.now }
-    ensures { result ≤ n }
-{
-    if n < 3 {
-        return 0;
+// A line without each '\r' before the '\n', which some editors put there, and without the three bytes that some put at a file's start to mark it as
+// UTF-8.
+fn trimmed(line: u64, s: &[u8]) -> &[u8] {
+    let mut rest = s;
+    while let Some(front) = rest.strip_suffix(b"\r") {
+        rest = front;
     }
-    if line == 1 && line::is(&s[..3], b"\xEF\xBB\xBF") {
-        return 3;
+    if line != 1 {
+        return rest;
     }
-    0
+    rest.strip_prefix(b"\xEF\xBB\xBF").unwrap_or(rest)
 }
 
 // Does the task with a line. An empty line, or one that begins with '#', is passed over.
-fn told(
-    task: Task,
-    t: Tally,
-    s: &[u8],
-    pages: &mut Pages,
-    lists: &mut Lists,
-    numbers: &mut Numbers,
-    base_lines: &mut Numbers,
-) -> Tally {
-    if s.len() == 0 {
-        return t;
-    }
-    if s[0] == b'#' {
-        return t;
-    }
-    match task {
-        Task::Number => number::add(t, s, pages, lists),
-        Task::Read => number::read(t, s, pages, lists),
-        Task::Hold(role) => compare::line_of(role, t, s, pages, lists, numbers, base_lines),
+fn one<W: Write, T: Task>(
+    out: &mut W,
+    task: &mut T,
+    tally: &mut Tally,
+    line: &[u8],
+) -> io::Result<()> {
+    report::count(&mut tally.line);
+    let s = trimmed(tally.line, line);
+    match s {
+        [] | [b'#', ..] => Ok(()),
+        _ => task.line(out, tally, s),
     }
 }
 
-// Runs one line, or passes over the end of a line that was cut.
-fn one(
-    task: Task,
-    t: Tally,
-    s: &[u8],
-    pages: &mut Pages,
-    lists: &mut Lists,
-    numbers: &mut Numbers,
-    base_lines: &mut Numbers,
-) -> Tally {
-    let mut t = t;
-    if t.cut {
-        t.cut = false;
-        return t;
+// A line that is too long is refused, unless it is a remark.
+fn too_long<W: Write>(out: &mut W, tally: &mut Tally, line: &[u8]) -> io::Result<()> {
+    report::count(&mut tally.line);
+    match line {
+        [b'#', ..] => Ok(()),
+        _ => report::refused(out, tally, Refusal::TOO_LONG),
     }
-    t.line = report::one_more(t.line);
-    let n = trimmed(s);
-    let from = start(t.line, s, n);
-    told(task, t, &s[from..n], pages, lists, numbers, base_lines)
 }
 
-// Runs each line of s.
-fn each(
-    task: Task,
-    t: Tally,
-    s: &[u8],
-    pages: &mut Pages,
-    lists: &mut Lists,
-    numbers: &mut Numbers,
-    base_lines: &mut Numbers,
-) -> Tally {
-    let mut t = t;
-    let mut i = 0;
-    while i < s.len() {
-        let end = lines::end_of(s, i, b'\n');
-        t = one(task, t, &s[i..end], pages, lists, numbers, base_lines);
-        i = end + 1;
-    }
-    t
-}
-
-// The index behind the last line end before `end`; 0 if there is none.
-fn whole(s: &[u8], end: usize) -> usize
-    requires { end ≤ length s.now }
-    ensures { result ≤ end }
-{
-    let mut n = end;
-    while n > 0 {
-        if s[n - 1] == b'\n' {
-            return n;
+// Does the task with each line of an open file. None: it could not be read to its end, and a remark says so.
+pub fn run<R: Read + Drop, W: Write, T: Task>(
+    file: R,
+    alloc: Global,
+    out: &mut W,
+    task: &mut T,
+) -> io::Result<Option<Tally>> {
+    let mut lines = BufReader::with_capacity(alloc, LONGEST, file)?;
+    let mut line = Vec::new(alloc);
+    let mut tally = Tally::default();
+    for _ in 0..u64::MAX {
+        // Whoever writes the input line by line has the answers to all lines before this one.
+        if !lines.buffer().contains(&b'\n') {
+            out.flush()?;
         }
-        n -= 1;
-    }
-    0
-}
-
-// Moves the bytes from `from` on to the front.
-fn shift(buf: &mut [u8], from: usize)
-    requires { from ≤ length buf.old }
-{
-    let mut k = from;
-    while k < buf.len() {
-        buf[k - from] = buf[k];
-        k += 1;
-    }
-}
-
-// Moves the bytes from n to `end` to the front and returns how many they are. A line that fills the buffer is not kept.
-fn keep(buf: &mut [u8], n: usize, end: usize) -> usize
-    requires { (n ≤ end) × (end ≤ length buf.old) }
-    ensures { result ≤ length buf.old }
-{
-    if end - n == buf.len() {
-        return 0;
-    }
-    shift(buf, n);
-    end - n
-}
-
-// What one read has brought. `end`: how many bytes the buffer has then.
-#[derive(Clone, Copy)]
-struct Filled {
-    end: usize,
-    failed: bool,
-    more: bool,
-}
-
-// Reads on behind the bytes that are kept.
-fn fill(fd: i32, buf: &mut [u8], kept: usize) -> Filled
-    requires { kept ≤ length buf.old }
-    ensures { (kept ≤ result.end) × (result.end ≤ length buf.old) }
-{
-    let got = libc::read(fd, &mut buf[kept..]);
-    let n = io::count(got, &buf[kept..]);
-    Filled {
-        end: kept + n,
-        failed: got < 0,
-        more: n > 0,
-    }
-}
-
-// A line that fills the buffer is refused as too long, unless it is a remark.
-fn cut_short(t: Tally, full: bool, first: u8) -> Tally {
-    let mut t = t;
-    if !full || t.cut {
-        return t;
-    }
-    t.cut = true;
-    t.line = report::one_more(t.line);
-    if first == b'#' {
-        return t;
-    }
-    report::refused(t, 5)
-}
-
-// What one turn leaves: the tally, and how many bytes at the buffer's front are the start of a line.
-#[derive(Clone, Copy)]
-struct Ran {
-    tally: Tally,
-    kept: usize,
-}
-
-// Runs the whole lines among the first `end` bytes of the buffer.
-fn turn(
-    task: Task,
-    t: Tally,
-    buf: &mut [u8],
-    end: usize,
-    pages: &mut Pages,
-    lists: &mut Lists,
-    numbers: &mut Numbers,
-    base_lines: &mut Numbers,
-) -> Ran
-    requires { (0 < length buf.old) × (end ≤ length buf.old) }
-    ensures { result.kept ≤ length buf.old }
-{
-    let n = whole(buf, end);
-    let cut = cut_short(t, end - n == buf.len(), buf[0]);
-    let tally = each(task, cut, &buf[..n], pages, lists, numbers, base_lines);
-    let kept = keep(buf, n, end);
-    Ran { tally, kept }
-}
-
-// What a file gives that cannot be read to its end.
-fn unreadable() -> Tally {
-    report::remark(b"cannot be read to its end", b"");
-    report::none(false)
-}
-
-// Runs the lines of an open file through a buffer. The loop must have an end, but nothing says that a file has one. So the turns are counted
-// down from a number that no run uses up.
-fn through(
-    fd: i32,
-    buf: &mut [u8],
-    task: Task,
-    pages: &mut Pages,
-    lists: &mut Lists,
-    numbers: &mut Numbers,
-    base_lines: &mut Numbers,
-) -> Tally
-    requires { 0 < length buf.old }
-{
-    let mut t = report::none(true);
-    let mut kept = 0;
-    let mut turns = u64::MAX;
-    while turns > 0 {
-        turns -= 1;
-        let x = fill(fd, buf, kept);
-        let end = x.end;
-        if x.failed {
-            return unreadable();
+        let Ok(next) = read_next(&mut lines, &mut line) else {
+            report::remark(out, "cannot be read to its end", "")?;
+            return Ok(None);
+        };
+        match next {
+            Next::Line => one(out, task, &mut tally, line.as_slice())?,
+            Next::TooLong => too_long(out, &mut tally, line.as_slice())?,
+            Next::End => break,
         }
-        if !x.more {
-            return each(task, t, &buf[..end], pages, lists, numbers, base_lines);
-        }
-        let y = turn(task, t, buf, end, pages, lists, numbers, base_lines);
-        t = y.tally;
-        kept = y.kept;
     }
-    t
-}
-
-// Runs the lines of an open file. A line of 65,536 bytes or more does not fit the buffer.
-pub fn run(
-    fd: i32,
-    task: Task,
-    pages: &mut Pages,
-    lists: &mut Lists,
-    numbers: &mut Numbers,
-    base_lines: &mut Numbers,
-) -> Tally {
-    let mut buf = io::large_buffer();
-    through(fd, &mut buf, task, pages, lists, numbers, base_lines)
+    Ok(Some(tally))
 }

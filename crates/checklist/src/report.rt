@@ -1,13 +1,13 @@
 // What is printed. A line that begins with '#' is a remark: it is no name and no number, and it is passed over when it is read again.
+use std::fmt::{Display, Formatter};
+use std::io::Write;
+use std::{fmt, io};
 
 // What the lines of a file have given so far.
-#[derive(Clone, Copy)]
+#[derive(Clone, Copy, Default)]
 pub struct Tally {
-    // Whether all of the file could be read.
-    pub read: bool,
-    // Lines so far. `cut`: the last of them is too long, and its end is still to come.
+    // Lines so far.
     pub line: u64,
-    pub cut: bool,
     pub fresh: u64,
     pub known: u64,
     pub refused: u64,
@@ -17,116 +17,81 @@ pub struct Tally {
     pub added: u64,
 }
 
-pub fn none(read: bool) -> Tally {
-    Tally {
-        read,
-        line: 0,
-        cut: false,
-        fresh: 0,
-        known: 0,
-        refused: 0,
-        agree: 0,
-        differ: 0,
-        added: 0,
+// Counts one more.
+pub fn count(n: &mut u64) {
+    *n = n.saturating_add(1);
+}
+
+// Document 01's number of a refusal. It is printed as document 01's word.
+#[derive(Clone, Copy)]
+pub struct Refusal(pub u64);
+
+impl Refusal {
+    pub const TOO_LONG: Refusal = Refusal(5);
+}
+
+impl Display for Refusal {
+    fn fmt<W: fmt::Write>(&self, f: &mut Formatter<W>) -> fmt::Result {
+        f.write_str(match self.0 {
+            1 => "bad size",
+            2 => "short memory",
+            3 => "unopened",
+            4 => "bad kind",
+            5 => "too long",
+            6 => "not text",
+            7 => "no tag",
+            8 => "list full",
+            9 => "no page",
+            10 => "no block",
+            11 => "short buffer",
+            12 => "high number",
+            _ => "cut form",
+        })
     }
 }
 
-pub fn one_more(n: u64) -> u64 {
-    std::num::wrapping_add_u64(n, 1)
+pub fn remark<W: Write>(out: &mut W, what: &str, which: &str) -> io::Result<()> {
+    writeln!(out, "# {what}{which}")
 }
 
-pub fn text(s: &[u8]) {
-    io::write_all(1, s);
-}
-
-pub fn number(n: u64) {
-    io::print_decimal(1, n);
-}
-
-// Document 01's words for the refusals of sizes, memory and names.
-fn name_word(refusal: u64) {
-    match refusal {
-        1 => text(b"bad size"),
-        2 => text(b"short memory"),
-        3 => text(b"unopened"),
-        4 => text(b"bad kind"),
-        5 => text(b"too long"),
-        6 => text(b"not text"),
-        _ => text(b"no tag"),
-    }
-}
-
-// Those of room and of forms.
-fn room_word(refusal: u64) {
-    match refusal {
-        8 => text(b"list full"),
-        9 => text(b"no page"),
-        10 => text(b"no block"),
-        11 => text(b"short buffer"),
-        12 => text(b"high number"),
-        _ => text(b"cut form"),
-    }
-}
-
-// Prints document 01's word for a refusal.
-pub fn word(refusal: u64) {
-    if refusal < 8 {
-        name_word(refusal);
-    } else {
-        room_word(refusal);
-    }
-}
-
-pub fn remark(what: &[u8], which: &[u8]) {
-    text(b"# ");
-    text(what);
-    text(which);
-    text(b"\n");
+// Prints a number, and a line or a name behind it.
+pub fn number_and_line<W: Write>(
+    out: &mut W,
+    before: &str,
+    number: u64,
+    s: &[u8],
+) -> io::Result<()> {
+    write!(out, "{before}{number} ")?;
+    out.write_all(s)?;
+    writeln!(out)
 }
 
 // Prints why a line cannot be taken, and counts it as refused.
-pub fn passed_over(t: Tally, why: &[u8]) -> Tally {
-    let mut t = t;
-    text(b"# line ");
-    number(t.line);
-    text(b": ");
-    text(why);
-    text(b"\n");
-    t.refused = one_more(t.refused);
-    t
+pub fn passed_over<W: Write>(out: &mut W, tally: &mut Tally, why: &str) -> io::Result<()> {
+    count(&mut tally.refused);
+    writeln!(out, "# line {}: {why}", tally.line)
 }
 
-pub fn refused(t: Tally, refusal: u64) -> Tally {
-    let mut t = t;
-    text(b"# line ");
-    number(t.line);
-    text(b": refused, ");
-    word(refusal);
-    text(b"\n");
-    t.refused = one_more(t.refused);
-    t
+pub fn refused<W: Write>(out: &mut W, tally: &mut Tally, refusal: Refusal) -> io::Result<()> {
+    count(&mut tally.refused);
+    writeln!(out, "# line {}: refused, {refusal}", tally.line)
 }
 
-pub fn numbered(t: Tally) {
-    text(b"# ");
-    number(t.fresh);
-    text(b" fresh, ");
-    number(t.known);
-    text(b" known, ");
-    number(t.refused);
-    text(b" refused\n");
+pub fn numbered<W: Write>(out: &mut W, tally: &Tally) -> io::Result<()> {
+    let Tally {
+        fresh,
+        known,
+        refused,
+        ..
+    } = *tally;
+    writeln!(out, "# {fresh} fresh, {known} known, {refused} refused")
 }
 
-pub fn usage(word: &[u8]) {
-    remark(b"not a command with its words: ", word);
-    text(
-        b"# number FILE, read FILE, compare FILE FILE, pair FILE FILE, blocks WIDTH COUNT, one after the other; - is the standard input\n",
-    );
-}
-
-// Says that there are too many words. If i is `stop`, the last command has failed, and nothing is said.
-pub fn too_many(i: usize, stop: usize) {
-    if i < stop {
-        text(b"# too many words\n");
-    }
+pub fn usage<W: Write>(out: &mut W, word: &str) -> io::Result<()> {
+    remark(out, "not a command with its words: ", word)?;
+    let commands = "number FILE, read FILE, compare FILE FILE, pair FILE FILE, blocks WIDTH COUNT";
+    writeln!(
+        out,
+        "# {commands}, one after the other; - is the standard input"
+    )
 }

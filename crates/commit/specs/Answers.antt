@@ -11,10 +11,10 @@ use Rattle.commit.specs.declared.AddResult.{AddResult}
 use Rattle.commit.specs.declared.AddResult.TheVariants.{Fresh, Known, Refused}
 
 -- Document 01's answer.
-abbrev pub addedBy : AddResult → AddAnswer
-addedBy (Fresh x) = AddAnswer.fresh x.0
-addedBy (Known x) = AddAnswer.known x.0
-addedBy (Refused why) = AddAnswer.refused why
+abbrev pub added_by : AddResult → AddAnswer
+added_by (Fresh x) = AddAnswer.fresh x.0
+added_by (Known x) = AddAnswer.known x.0
+added_by (Refused why) = AddAnswer.refused why
 
 -- ---- a name that is there, under the kind k's local number i
 
@@ -25,4 +25,4 @@ KnownBounded s (Refused why) = why ≡ W.Unopened
 
 pub record Knows (s : Sizes) (lists : Bytes) (k i : ℕ) (r : AddResult) : Type 0 where
   pub bounded : KnownBounded s r
-  pub right : (b : Blocks) → BlocksAt s b lists → i < b.next k → addedBy r ≡ AddAnswer.known (global s.w b k i)
+  pub right : (b : Blocks) → BlocksAt s b lists → i < b.next k → added_by r ≡ AddAnswer.known (global s.w b k i)

@@ -2,17 +2,17 @@
 #![tactic(auto)]
 
 ghost use Rattle.std.specs.Prelude.{◌≡◌, false, ◌+◌, ◌*◌, ◌%◌, ◌^◌, ◌≤◌, ◌<◌, length};
-ghost use Rattle.fnv.specs.Fnv.{fnvOf};
-ghost use Rattle.layout.specs.Sizes.{InRange, kinds, listBytes};
+ghost use Rattle.fnv.specs.Fnv.{fnv_of};
+ghost use Rattle.layout.specs.Sizes.{InRange, kinds, list_bytes};
 ghost use Rattle.layout.specs.Lent.{Lent};
-ghost use Rattle.bytes_key.specs.Keys.{bytesIn, IsKey};
+ghost use Rattle.bytes_key.specs.Keys.{bytes_in, IsKey};
 ghost use Rattle.bytes_buffer.specs.declared.Spot.TheVariants.{NoPage};
-ghost use Rattle.bytes_dictionary.specs.Written.{HasRoom, pagesAfter, listsAfter};
+ghost use Rattle.bytes_dictionary.specs.Written.{HasRoom, pages_after, lists_after};
 ghost use Rattle.model.specs.Answers.{AddAnswer};
 ghost use Rattle.model.specs.Kinds.{row};
 ghost use Rattle.plan.specs.Plans.{PlanFits};
-ghost use Rattle.commit.specs.Answers.{addedBy, Knows};
-ghost use Rattle.commit.specs.Written.{namePages, nameLists};
+ghost use Rattle.commit.specs.Answers.{added_by, Knows};
+ghost use Rattle.commit.specs.Written.{name_pages, name_lists};
 
 use blocks::LocalId;
 use bytes_entry::NewEntry;
@@ -32,7 +32,7 @@ pub enum AddResult {
 
 // The answer for a name that is stored already, under a local number.
 pub fn known(lists: &[u8], s: Sizes, k: usize, local: LocalId) -> AddResult
-    requires { InRange s × (listBytes s ≤ length lists.now) × (k < kinds) }
+    requires { InRange s × (list_bytes s ≤ length lists.now) × (k < kinds) }
     ensures { Knows s lists.now k local.0 result }
 {
     let number = meta_dv_dict::local_to_global(lists, s, k, local);
@@ -57,10 +57,10 @@ pub struct NewName {
 
 // Writes the head as it was planned, if it is a new one.
 fn insert_head(pages: &mut [u8], lists: &mut [u8], s: Sizes, w: NewName, x: Plan, head: &[u8])
-    requires lent { Lent s pages.old lists.old kinds w.k × (w.headplace < 2 * s.e) × (w.f < s.e) × (w.headhash ≡ fnvOf head.now) }
+    requires lent { Lent s pages.old lists.old kinds w.k × (w.headplace < 2 * s.e) × (w.f < s.e) × (w.headhash ≡ fnv_of head.now) }
     requires has_room { HasRoom s (length head.now) x.head × (w.newhead ≡ false → x.head ≡ NoPage) }
-    ensures pages { pages.new ≡ pagesAfter s pages.old x.head head.now }
-    ensures lists { lists.new ≡ listsAfter s lists.old (row w.k).headsAt w.f w.headplace x.head x.stamp head.now }
+    ensures pages { pages.new ≡ pages_after s pages.old x.head head.now }
+    ensures lists { lists.new ≡ lists_after s lists.old (row w.k).heads_at w.f w.headplace x.head x.stamp head.now }
 {
     if !w.newhead {
         return;
@@ -91,12 +91,12 @@ pub fn commit(
     front: &[u8],
     rest: &[u8],
 ) -> AddResult
-    requires lent { Lent s pages.old lists.old kinds w.k × (w.headplace < 2 * s.e) × (w.place < 2 * s.e) × (w.key.d ≡ (row w.k).mainAt) }
-    requires key { IsKey w.key front.now rest.now × (w.headhash ≡ fnvOf head.now) }
-    requires plan_fits { PlanFits s w.newhead w.f (length head.now) (length (bytesIn w.key front.now rest.now)) x }
-    ensures answer { addedBy result ≡ AddAnswer.fresh (x.g * 2 ^ s.w + x.n % 2 ^ s.w) }
-    ensures pages { pages.new ≡ namePages s pages.old x head.now (bytesIn w.key front.now rest.now) }
-    ensures lists { lists.new ≡ nameLists s lists.old w.k w.f w.headplace w.place x head.now (bytesIn w.key front.now rest.now) }
+    requires lent { Lent s pages.old lists.old kinds w.k × (w.headplace < 2 * s.e) × (w.place < 2 * s.e) × (w.key.d ≡ (row w.k).main_at) }
+    requires key { IsKey w.key front.now rest.now × (w.headhash ≡ fnv_of head.now) }
+    requires plan_fits { PlanFits s w.newhead w.f (length head.now) (length (bytes_in w.key front.now rest.now)) x }
+    ensures answer { added_by result ≡ AddAnswer.fresh (x.g * 2 ^ s.w + x.n % 2 ^ s.w) }
+    ensures pages { pages.new ≡ name_pages s pages.old x head.now (bytes_in w.key front.now rest.now) }
+    ensures lists { lists.new ≡ name_lists s lists.old w.k w.f w.headplace w.place x head.now (bytes_in w.key front.now rest.now) }
 {
     let n = x.n;
     let g = x.g;

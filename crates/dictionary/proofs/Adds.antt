@@ -10,7 +10,7 @@ use Rattle.refusals.specs.declared.Refusal.{Refusal}
 use Rattle.refusals.specs.declared.Refusal.TheVariants.{Unopened}
 use Rattle.layout.specs.declared.Sizes.{Sizes}
 use Rattle.header.specs.declared.Header.TheVariants as H
-use Rattle.header.specs.Header.{headerOf, sizesIn}
+use Rattle.header.specs.Header.{header_of, sizes_in}
 use Rattle.model.specs.Names.{Name}
 use Rattle.model.specs.Answers.{AddAnswer}
 use Rattle.model.specs.Steps.{checks}
@@ -20,18 +20,18 @@ use Rattle.memory.proofs.Beyond.{beyond-same}
 use Rattle.enter.specs.Added.{AddsName}
 use Rattle.memory.proofs.Headers.{no-state, sizes-read, not-always, one-sizes}
 
-pub add-unopened : (pages lists : Bytes) (a : Name) → headerOf (length pages) lists ≡ H.Unopened → AddPost pages lists a (AddAnswer.refused Unopened) pages lists
+pub add-unopened : (pages lists : Bytes) (a : Name) → header_of (length pages) lists ≡ H.Unopened → AddPost pages lists a (AddAnswer.refused Unopened) pages lists
 add-unopened pages lists a e =
     record {
       unopened = λ u. refl;
       illegal = λ why h. inl refl;
       bounded = λ c. inl refl;
       kept = λ f. (refl, refl);
-      beyond = beyond-same (sizesIn lists) pages lists;
+      beyond = beyond-same (sizes_in lists) pages lists;
       whole = λ s st S. absurd (no-state pages lists e s st S);
     }
 
-module _ (pages lists : Bytes) (s : Sizes) (e : headerOf (length pages) lists ≡ H.Opened s) (a : Name) where
+module _ (pages lists : Bytes) (s : Sizes) (e : header_of (length pages) lists ≡ H.Opened s) (a : Name) where
   pub add-illegal : (why : Refusal) → checks s a ≡ some why → AddPost pages lists a (AddAnswer.refused why) pages lists
   add-illegal why i =
       record {
@@ -43,7 +43,7 @@ module _ (pages lists : Bytes) (s : Sizes) (e : headerOf (length pages) lists �
             let j : checks s a ≡ none = rw (sizes-read pages lists s e) at c in
             let z : ◌≡◌ {A = ℕ} 0 1 = cc in absurd (omega arith);
         kept = λ f. (refl, refl);
-        beyond = beyond-same (sizesIn lists) pages lists;
+        beyond = beyond-same (sizes_in lists) pages lists;
         whole = λ t st S.
             let q : t ≡ s = one-sizes pages lists s e t st S in
             rw (decided-illegal t st a why (rw q i)) (refl, S);

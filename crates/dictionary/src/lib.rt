@@ -3,7 +3,7 @@
 
 ghost use Rattle.model.specs.Names.{entered};
 ghost use Rattle.memory.specs.Promises.{AddPost};
-ghost use Rattle.commit.specs.Answers.{addedBy};
+ghost use Rattle.commit.specs.Answers.{added_by};
 
 use commit::AddResult;
 use header::Header;
@@ -18,7 +18,7 @@ pub fn add<'a>(
     first: &'a [u8],
     second: &'a [u8],
 ) -> AddResult
-    ensures { AddPost pages.old lists.old (entered kind first.now second.now) (addedBy result) pages.new lists.new }
+    ensures { AddPost pages.old lists.old (entered kind first.now second.now) (added_by result) pages.new lists.new }
 {
     let Header::Opened(s) = header::check_header(pages, lists) else {
         return AddResult::Refused(Refusal::Unopened);

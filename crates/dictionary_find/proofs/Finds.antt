@@ -10,7 +10,7 @@ use Rattle.refusals.specs.declared.Refusal.{Refusal}
 use Rattle.refusals.specs.declared.Refusal.TheVariants.{Unopened}
 use Rattle.layout.specs.declared.Sizes.{Sizes}
 use Rattle.header.specs.declared.Header.TheVariants as H
-use Rattle.header.specs.Header.{headerOf}
+use Rattle.header.specs.Header.{header_of}
 use Rattle.blocks.specs.declared.LocalId.{LocalId}
 use Rattle.blocks.specs.Blocks.{global}
 use Rattle.meta_dv_dict.specs.declared.Number.TheVariants as N
@@ -18,15 +18,15 @@ use Rattle.meta_dv_dict.specs.declared.GlobalId.{GlobalId}
 use Rattle.meta_dv_dict.specs.Answers.{Globals}
 use Rattle.model.specs.Names.{Name}
 use Rattle.model.specs.Answers.{FindAnswer}
-use Rattle.model.specs.State.{State, localOf, number_of}
-use Rattle.model.specs.Steps.{checks, findBy}
+use Rattle.model.specs.State.{State, local_of, number_of}
+use Rattle.model.specs.Steps.{checks, find_by}
 use Rattle.model.proofs.Names.{local-lt}
 use Rattle.memory.specs.Stands.{Stands}
 use Rattle.memory.specs.Promises.{FindBounded, FindPost}
 use Rattle.memory.proofs.Counts.{next-count}
 use Rattle.memory.proofs.Headers.{no-state, sizes-read, not-always, one-sizes}
 
-pub find-unopened : (pages lists : Bytes) (a : Name) → headerOf (length pages) lists ≡ H.Unopened → FindPost pages lists a (FindAnswer.refused Unopened) pages lists
+pub find-unopened : (pages lists : Bytes) (a : Name) → header_of (length pages) lists ≡ H.Unopened → FindPost pages lists a (FindAnswer.refused Unopened) pages lists
 find-unopened pages lists a e =
     record {
       unopened = λ u. refl;
@@ -36,7 +36,7 @@ find-unopened pages lists a e =
       whole = λ s st S. absurd (no-state pages lists e s st S);
     }
 
-module _ (pages lists : Bytes) (s : Sizes) (e : headerOf (length pages) lists ≡ H.Opened s) (a : Name) where
+module _ (pages lists : Bytes) (s : Sizes) (e : header_of (length pages) lists ≡ H.Opened s) (a : Name) where
   pub find-illegal : (why : Refusal) → checks s a ≡ some why → FindPost pages lists a (FindAnswer.refused why) pages lists
   find-illegal why i =
       record {
@@ -53,7 +53,7 @@ module _ (pages lists : Bytes) (s : Sizes) (e : headerOf (length pages) lists �
 
   module _ (legal : checks s a ≡ none) where
     -- Any answer in bounds that is right of each state.
-    find-legal : (r : FindAnswer) → FindBounded s r → ((st : State) → Stands s st pages lists → r ≡ findBy (number_of s st a)) → FindPost pages lists a r pages lists
+    find-legal : (r : FindAnswer) → FindBounded s r → ((st : State) → Stands s st pages lists → r ≡ find_by (number_of s st a)) → FindPost pages lists a r pages lists
     find-legal r b f =
         record {
           unopened = λ u. absurd (not-always pages lists s e u);
@@ -70,7 +70,7 @@ module _ (pages lists : Bytes) (s : Sizes) (e : headerOf (length pages) lists �
         }
 
     -- What the search says of each state.
-    module _ (x : LocalId) (h : (st : State) → Stands s st pages lists → localOf a (st.part a.kind).names ≡ some x.0) where
+    module _ (x : LocalId) (h : (st : State) → Stands s st pages lists → local_of a (st.part a.kind).names ≡ some x.0) where
       given : (st : State) → Stands s st pages lists → x.0 < st.blocks.next a.kind
       given st S = omega (arith, local-lt a (st.part a.kind).names x.0 (h st S), next-count S a.kind)
 
@@ -90,7 +90,7 @@ module _ (pages lists : Bytes) (s : Sizes) (e : headerOf (length pages) lists �
           let u : N.Bad ≡ N.Global (record { 0 = global s.w st.blocks a.kind x.0 }) = g.right st.blocks S.blocked (given st S) in
           let z : ◌≡◌ {A = ℕ} 0 1 = cc in absurd (omega arith))
 
-    pub find_none : ((st : State) → Stands s st pages lists → localOf a (st.part a.kind).names ≡ none) → FindPost pages lists a FindAnswer.absent pages lists
+    pub find_none : ((st : State) → Stands s st pages lists → local_of a (st.part a.kind).names ≡ none) → FindPost pages lists a FindAnswer.absent pages lists
     unfolding number_of
     find_none h = find-legal FindAnswer.absent tt (λ st S. rw (h st S))
 

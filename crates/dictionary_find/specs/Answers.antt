@@ -3,7 +3,7 @@ use Rattle.model.specs.Answers.{FindAnswer}
 use Rattle.dictionary_find.specs.declared.FindResult.{FindResult}
 use Rattle.dictionary_find.specs.declared.FindResult.TheVariants as F
 
-abbrev pub foundBy : FindResult → FindAnswer
-foundBy (F.Known x) = FindAnswer.known x.0
-foundBy F.Nothing = FindAnswer.absent
-foundBy (F.Refused why) = FindAnswer.refused why
+abbrev pub found_by : FindResult → FindAnswer
+found_by (F.Known x) = FindAnswer.known x.0
+found_by F.Nothing = FindAnswer.absent
+found_by (F.Refused why) = FindAnswer.refused why

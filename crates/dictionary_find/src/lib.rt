@@ -3,7 +3,7 @@
 
 ghost use Rattle.model.specs.Names.{entered};
 ghost use Rattle.memory.specs.Promises.{FindPost};
-ghost use Rattle.dictionary_find.specs.Answers.{foundBy};
+ghost use Rattle.dictionary_find.specs.Answers.{found_by};
 
 use header::Header;
 use meta_dv_dict::{GlobalId, Number};
@@ -25,7 +25,7 @@ pub fn find<'a>(
     first: &'a [u8],
     second: &'a [u8],
 ) -> FindResult
-    ensures { FindPost pages.entry.now lists.entry.now (entered kind first.now second.now) (foundBy result) pages.exit.now lists.exit.now }
+    ensures { FindPost pages.entry.now lists.entry.now (entered kind first.now second.now) (found_by result) pages.exit.now lists.exit.now }
 {
     let Header::Opened(s) = header::check_header(pages, lists) else {
         return FindResult::Refused(Refusal::Unopened);

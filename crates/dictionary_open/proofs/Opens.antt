@@ -9,18 +9,18 @@ use Rattle.refusals.specs.declared.Refusal.{Refusal}
 use Rattle.refusals.specs.declared.Refusal.TheVariants.{BadSize, ShortMemory}
 use Rattle.layout.specs.declared.Sizes.{Sizes}
 use Rattle.layout.specs.declared.Made.TheVariants.{Fit, BadSize as BadMade}
-use Rattle.layout.specs.Sizes.{InRange, made, pageBytes, listBytes}
+use Rattle.layout.specs.Sizes.{InRange, made, page_bytes, list_bytes}
 use Rattle.layout.proofs.Ranges.{ranged, made-fit, made-bad}
-use Rattle.header.specs.Opened.{openedLists}
+use Rattle.header.specs.Opened.{opened_lists}
 use Rattle.model.specs.Answers.{OpenAnswer}
-use Rattle.model.specs.Steps.{openAnswer}
+use Rattle.model.specs.Steps.{open_answer}
 use Rattle.memory.specs.Promises.{OpenPost}
 use Rattle.memory.proofs.Beyond.{beyond-same}
 use Rattle.memory.proofs.Opened.{opened-stands, opened-same-beyond}
 
 module _ (s : Sizes) (pages lists : Bytes) where
   -- A refusal writes nothing.
-  open-refused : (why : Refusal) → openAnswer s (length pages) (length lists) ≡ OpenAnswer.refused why → OpenPost s pages lists (OpenAnswer.refused why) pages lists
+  open-refused : (why : Refusal) → open_answer s (length pages) (length lists) ≡ OpenAnswer.refused why → OpenPost s pages lists (OpenAnswer.refused why) pages lists
   open-refused why e =
       record {
         answer = sym e;
@@ -31,7 +31,7 @@ module _ (s : Sizes) (pages lists : Bytes) where
       }
 
   pub open-bad : made s ≡ BadMade → OpenPost s pages lists (OpenAnswer.refused BadSize) pages lists
-  unfolding openAnswer
+  unfolding open_answer
   open-bad m = open-refused BadSize (rw (made-bad s m))
 
 -- The sizes t that passed are the sizes s given.
@@ -42,29 +42,29 @@ module _ (s t : Sizes) (m : made s ≡ Fit t) where
       ranged t (rw p.0 at p.1)
 
   module _ (pages lists : Bytes) where
-    pub open-short-pages : length pages < pageBytes t → OpenPost s pages lists (OpenAnswer.refused ShortMemory) pages lists
-    unfolding openAnswer
+    pub open-short-pages : length pages < page_bytes t → OpenPost s pages lists (OpenAnswer.refused ShortMemory) pages lists
+    unfolding open_answer
     open-short-pages h =
         let p = made-fit s t m in
-        let l : length pages < pageBytes s = rw p.0 h in
+        let l : length pages < page_bytes s = rw p.0 h in
         open-refused s pages lists ShortMemory (rw (p.1, lt-ltb _ _ l))
 
-    module _ (f : pageBytes t ≤ length pages) where
-      pub open-short-lists : length lists < listBytes t → OpenPost s pages lists (OpenAnswer.refused ShortMemory) pages lists
-      unfolding openAnswer
+    module _ (f : page_bytes t ≤ length pages) where
+      pub open-short-lists : length lists < list_bytes t → OpenPost s pages lists (OpenAnswer.refused ShortMemory) pages lists
+      unfolding open_answer
       open-short-lists h =
           let p = made-fit s t m in
-          let k : pageBytes s ≤ length pages = rw p.0 f in
-          let l : length lists < listBytes s = rw p.0 h in
+          let k : page_bytes s ≤ length pages = rw p.0 f in
+          let l : length lists < list_bytes s = rw p.0 h in
           open-refused s pages lists ShortMemory (rw (p.1, le-ltb _ _ k, lt-ltb _ _ l))
 
-      pub open_done : listBytes t ≤ length lists → (lists' : Bytes) → lists' ≡ openedLists t lists → OpenPost s pages lists OpenAnswer.done pages lists'
-      unfolding openAnswer
+      pub open_done : list_bytes t ≤ length lists → (lists' : Bytes) → lists' ≡ opened_lists t lists → OpenPost s pages lists OpenAnswer.done pages lists'
+      unfolding open_answer
       open_done g lists' e =
           let p = made-fit s t m in
-          let k : pageBytes s ≤ length pages = rw p.0 f in
-          let l : listBytes s ≤ length lists = rw p.0 g in
-          let q : lists' ≡ openedLists s lists = rw p.0 e in
+          let k : page_bytes s ≤ length pages = rw p.0 f in
+          let l : list_bytes s ≤ length lists = rw p.0 g in
+          let q : lists' ≡ opened_lists s lists = rw p.0 e in
           record {
             answer = rw (p.1, le-ltb _ _ k, le-ltb _ _ l);
             pages-kept = refl;

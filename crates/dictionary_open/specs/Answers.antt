@@ -3,6 +3,6 @@ use Rattle.model.specs.Answers.{OpenAnswer}
 use Rattle.dictionary_open.specs.declared.OpenResult.{OpenResult}
 use Rattle.dictionary_open.specs.declared.OpenResult.TheVariants as O
 
-abbrev pub openedBy : OpenResult → OpenAnswer
-openedBy O.Done = OpenAnswer.done
-openedBy (O.Refused why) = OpenAnswer.refused why
+abbrev pub opened_by : OpenResult → OpenAnswer
+opened_by O.Done = OpenAnswer.done
+opened_by (O.Refused why) = OpenAnswer.refused why

@@ -2,7 +2,7 @@
 #![tactic(auto)]
 
 ghost use Rattle.memory.specs.Promises.{OpenPost};
-ghost use Rattle.dictionary_open.specs.Answers.{openedBy};
+ghost use Rattle.dictionary_open.specs.Answers.{opened_by};
 
 use layout::{Made, Sizes};
 use refusals::Refusal;
@@ -23,7 +23,7 @@ pub fn open(
     w: usize,
     b: usize,
 ) -> OpenResult
-    ensures { OpenPost (record { p = p; n = n; e = e; w = w; b = b }) pages.entry.now lists.old (openedBy result) pages.exit.now lists.new }
+    ensures { OpenPost (record { p = p; n = n; e = e; w = w; b = b }) pages.entry.now lists.old (opened_by result) pages.exit.now lists.new }
 {
     let Made::Fit(s) = Sizes::new(p, n, e, w, b) else {
         return OpenResult::Refused(Refusal::BadSize);

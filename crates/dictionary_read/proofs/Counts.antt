@@ -6,15 +6,15 @@ use native.Mathlib.Omega.{arith}
 use borrow.Author.Tests.{le-leb, lt-leb}
 use lib.ListN.{length}
 use Rattle.slices.specs.Bytes.{Bytes}
-use Rattle.words.specs.Words.{wordAt}
+use Rattle.words.specs.Words.{word_at}
 use Rattle.refusals.specs.declared.Refusal.TheVariants.{Unopened, BadKind}
 use Rattle.layout.specs.declared.Sizes.{Sizes}
 use Rattle.layout.specs.Sizes.{kinds}
-use Rattle.layout.specs.Fields.{countAt}
+use Rattle.layout.specs.Fields.{count_at}
 use Rattle.header.specs.declared.Header.TheVariants as H
-use Rattle.header.specs.Header.{headerOf}
+use Rattle.header.specs.Header.{header_of}
 use Rattle.bytes_dictionary.specs.declared.Counted.TheVariants.{Entries, Bad}
-use Rattle.bytes_dictionary.specs.Reading.{countIn}
+use Rattle.bytes_dictionary.specs.Reading.{count_in}
 use Rattle.bytes_dictionary.proofs.Reading.{counted-by}
 use Rattle.model.specs.Answers.{CountAnswer}
 use Rattle.model.specs.Kinds.{row}
@@ -24,11 +24,11 @@ use Rattle.memory.specs.Promises.{CountBounded, CountPost}
 use Rattle.memory.proofs.Counts.{main-counted}
 use Rattle.memory.proofs.Headers.{no-state, sizes-read, not-always, one-sizes}
 
-pub count-unopened : (pages lists : Bytes) (kind : ℕ) → headerOf (length pages) lists ≡ H.Unopened → CountPost pages lists kind (CountAnswer.refused Unopened) pages lists
+pub count-unopened : (pages lists : Bytes) (kind : ℕ) → header_of (length pages) lists ≡ H.Unopened → CountPost pages lists kind (CountAnswer.refused Unopened) pages lists
 count-unopened pages lists kind e =
     record { unopened = λ u. refl; illegal = λ h. inl refl; bounded = λ k. refl; kept = (refl, refl); whole = λ s st S. absurd (no-state pages lists e s st S) }
 
-module _ (pages lists : Bytes) (s : Sizes) (e : headerOf (length pages) lists ≡ H.Opened s) (kind : ℕ) where
+module _ (pages lists : Bytes) (s : Sizes) (e : header_of (length pages) lists ≡ H.Opened s) (kind : ℕ) where
   pub count-bad-kind : kinds ≤ kind → CountPost pages lists kind (CountAnswer.refused BadKind) pages lists
   count-bad-kind h =
       record {
@@ -54,14 +54,14 @@ module _ (pages lists : Bytes) (s : Sizes) (e : headerOf (length pages) lists �
         }
 
     -- By the word of the kind's main dictionary.
-    pub count-names : (n : ℕ) → countIn s (wordAt lists (countAt (row kind).mainAt)) ≡ Entries n → CountPost pages lists kind (CountAnswer.count n) pages lists
+    pub count-names : (n : ℕ) → count_in s (word_at lists (count_at (row kind).main_at)) ≡ Entries n → CountPost pages lists kind (CountAnswer.count n) pages lists
     count-names n h =
         count-legal (CountAnswer.count n) (let c = counted-by s _ n h in omega (arith, c.0, c.1))
         (λ st S.
         let u : Entries n ≡ Entries (length (st.part kind).names) = sym h ∙ main-counted S kind l in
         let v : n ≡ length (st.part kind).names = cc in ap CountAnswer.count v)
 
-    pub count-bad : countIn s (wordAt lists (countAt (row kind).mainAt)) ≡ Bad → CountPost pages lists kind (CountAnswer.refused Unopened) pages lists
+    pub count-bad : count_in s (word_at lists (count_at (row kind).main_at)) ≡ Bad → CountPost pages lists kind (CountAnswer.refused Unopened) pages lists
     count-bad h =
         count-legal (CountAnswer.refused Unopened) refl
         (λ st S.

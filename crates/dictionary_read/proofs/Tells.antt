@@ -12,19 +12,19 @@ use Rattle.slices.specs.Bytes.{Bytes}
 use Rattle.refusals.specs.declared.Refusal.TheVariants.{Unopened, ShortBuffer}
 use Rattle.layout.specs.declared.Sizes.{Sizes}
 use Rattle.header.specs.declared.Header.TheVariants as H
-use Rattle.header.specs.Header.{headerOf}
+use Rattle.header.specs.Header.{header_of}
 use Rattle.model.specs.Names.{Name, size}
 use Rattle.model.specs.Answers.{ReadAnswer}
 use Rattle.model.specs.State.{State, name_of}
-use Rattle.model.specs.Steps.{read_by, bufferBy}
+use Rattle.model.specs.Steps.{read_by, buffer_by}
 use Rattle.memory.specs.Stands.{Stands}
 use Rattle.memory.specs.Promises.{ReadPost}
 use Rattle.locate.specs.declared.Pieces.{Pieces}
 use Rattle.locate.specs.declared.Located.TheVariants.{At, Nothing, Bad}
-use Rattle.locate.specs.Located.{piecesIn, Tells, LocatesName}
+use Rattle.locate.specs.Located.{pieces_in, Tells, LocatesName}
 use Rattle.memory.proofs.Headers.{no-state, not-always, one-sizes}
 
-pub read-unopened : (pages lists : Bytes) (number : ℕ) (x : Bytes) → headerOf (length pages) lists ≡ H.Unopened → ReadPost pages lists number x (ReadAnswer.refused Unopened) x pages lists
+pub read-unopened : (pages lists : Bytes) (number : ℕ) (x : Bytes) → header_of (length pages) lists ≡ H.Unopened → ReadPost pages lists number x (ReadAnswer.refused Unopened) x pages lists
 read-unopened pages lists number x e =
     record {
       unopened = λ u. refl;
@@ -35,11 +35,11 @@ read-unopened pages lists number x e =
       whole = λ s st S. absurd (no-state pages lists e s st S);
     }
 
-module _ (pages lists : Bytes) (s : Sizes) (e : headerOf (length pages) lists ≡ H.Opened s) (number : ℕ) (x : Bytes) where
+module _ (pages lists : Bytes) (s : Sizes) (e : header_of (length pages) lists ≡ H.Opened s) (number : ℕ) (x : Bytes) where
   -- The answer is right for every state that the memory stands for, if it is right for the name that the number has there.
-  told : (r : ReadAnswer) (y : Bytes) (P : Option Name → Type 0) → ((o : Option Name) → P o → (r ≡ read_by x o) × (y ≡ bufferBy x o))
+  told : (r : ReadAnswer) (y : Bytes) (P : Option Name → Type 0) → ((o : Option Name) → P o → (r ≡ read_by x o) × (y ≡ buffer_by x o))
       → ((st : State) → Stands s st pages lists → P (name_of s st number))
-      → (t : Sizes) (st : State) → Stands t st pages lists → (r ≡ read_by x (name_of t st number)) × (y ≡ bufferBy x (name_of t st number))
+      → (t : Sizes) (st : State) → Stands t st pages lists → (r ≡ read_by x (name_of t st number)) × (y ≡ buffer_by x (name_of t st number))
   told r y P f h t st S =
       let q : t ≡ s = one-sizes pages lists s e t st S in
       rw q (f (name_of s st number) (h st (rw q at S)))
@@ -55,7 +55,7 @@ module _ (pages lists : Bytes) (s : Sizes) (e : headerOf (length pages) lists �
         whole = told ReadAnswer.absent x (λ o. Tells pages o Nothing) go h.right;
       }
     where
-      go : (o : Option Name) → Tells pages o Nothing → (ReadAnswer.absent ≡ read_by x o) × (x ≡ bufferBy x o)
+      go : (o : Option Name) → Tells pages o Nothing → (ReadAnswer.absent ≡ read_by x o) × (x ≡ buffer_by x o)
       go none p = (refl, refl)
       go (some a) p = absurd p
 
@@ -70,7 +70,7 @@ module _ (pages lists : Bytes) (s : Sizes) (e : headerOf (length pages) lists �
         whole = told (ReadAnswer.refused Unopened) x (λ o. Tells pages o Bad) go h.right;
       }
     where
-      go : (o : Option Name) → Tells pages o Bad → (ReadAnswer.refused Unopened ≡ read_by x o) × (x ≡ bufferBy x o)
+      go : (o : Option Name) → Tells pages o Bad → (ReadAnswer.refused Unopened ≡ read_by x o) × (x ≡ buffer_by x o)
       go none p = absurd p
       go (some a) p = absurd p
 
@@ -86,25 +86,25 @@ module _ (pages lists : Bytes) (s : Sizes) (e : headerOf (length pages) lists �
           whole = told (ReadAnswer.refused ShortBuffer) x (λ o. Tells pages o (At q)) go h.right;
         }
       where
-        go : (o : Option Name) → Tells pages o (At q) → (ReadAnswer.refused ShortBuffer ≡ read_by x o) × (x ≡ bufferBy x o)
+        go : (o : Option Name) → Tells pages o (At q) → (ReadAnswer.refused ShortBuffer ≡ read_by x o) × (x ≡ buffer_by x o)
         go none p = absurd p
         go (some a) p =
             let t : length x < size a = omega (arith, p.first, p.second) in
             rw (lt-leb (size a) (length x) t) (refl, refl)
 
-    pub read_name : q.first + q.second ≤ length x → (y : Bytes) → y ≡ piecesIn pages q ++ drop (q.first + q.second) x
+    pub read_name : q.first + q.second ≤ length x → (y : Bytes) → y ≡ pieces_in pages q ++ drop (q.first + q.second) x
         → ReadPost pages lists number x (ReadAnswer.name q.kind q.first q.second) y pages lists
     read_name l y w =
         record {
           unopened = λ u. absurd (not-always pages lists s e u);
-          bounded = (h.range.kinded, l, rw w (drop_at (piecesIn pages q) _ _ h.range.lengths));
+          bounded = (h.range.kinded, l, rw w (drop_at (pieces_in pages q) _ _ h.range.lengths));
           buffer-length = rw w (simp (length-append, length-drop) (omega (arith, h.range.lengths)));
           kept = (refl, refl);
           buffer-kept = λ f. absurd (f _ _ _ refl);
           whole = told (ReadAnswer.name q.kind q.first q.second) y (λ o. Tells pages o (At q)) go h.right;
         }
       where
-        go : (o : Option Name) → Tells pages o (At q) → (ReadAnswer.name q.kind q.first q.second ≡ read_by x o) × (y ≡ bufferBy x o)
+        go : (o : Option Name) → Tells pages o (At q) → (ReadAnswer.name q.kind q.first q.second ≡ read_by x o) × (y ≡ buffer_by x o)
         go none p = absurd p
         go (some a) p =
             let t : size a ≤ length x = omega (arith, p.first, p.second) in

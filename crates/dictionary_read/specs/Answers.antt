@@ -5,11 +5,11 @@ use Rattle.dictionary_read.specs.declared.ReadResult.TheVariants as R
 use Rattle.dictionary_read.specs.declared.CountResult.{CountResult}
 use Rattle.dictionary_read.specs.declared.CountResult.TheVariants as C
 
-abbrev pub toldBy : ReadResult → ReadAnswer
-toldBy (R.Name kind first second) = ReadAnswer.name kind first second
-toldBy R.Nothing = ReadAnswer.absent
-toldBy (R.Refused why) = ReadAnswer.refused why
+abbrev pub told_by : ReadResult → ReadAnswer
+told_by (R.Name kind first second) = ReadAnswer.name kind first second
+told_by R.Nothing = ReadAnswer.absent
+told_by (R.Refused why) = ReadAnswer.refused why
 
-abbrev pub countedBy : CountResult → CountAnswer
-countedBy (C.Names n) = CountAnswer.count n
-countedBy (C.Refused why) = CountAnswer.refused why
+abbrev pub counted_by : CountResult → CountAnswer
+counted_by (C.Names n) = CountAnswer.count n
+counted_by (C.Refused why) = CountAnswer.refused why

@@ -2,7 +2,7 @@
 #![tactic(auto)]
 
 ghost use Rattle.memory.specs.Promises.{ReadPost, CountPost};
-ghost use Rattle.dictionary_read.specs.Answers.{toldBy, countedBy};
+ghost use Rattle.dictionary_read.specs.Answers.{told_by, counted_by};
 
 use bytes_dictionary::Counted;
 use header::Header;
@@ -31,7 +31,7 @@ pub enum CountResult {
 
 // The name that has a number: its parts at the buffer's start, one after the other.
 pub fn read(pages: &[u8], lists: &[u8], number: GlobalId, buffer: &mut [u8]) -> ReadResult
-    ensures { ReadPost pages.entry.now lists.entry.now number.0 buffer.old (toldBy result) buffer.new pages.exit.now lists.exit.now }
+    ensures { ReadPost pages.entry.now lists.entry.now number.0 buffer.old (told_by result) buffer.new pages.exit.now lists.exit.now }
 {
     let Header::Opened(s) = header::check_header(pages, lists) else {
         return ReadResult::Refused(Refusal::Unopened);
@@ -58,7 +58,7 @@ pub fn read(pages: &[u8], lists: &[u8], number: GlobalId, buffer: &mut [u8]) -> 
 
 // How many names of a kind there are.
 pub fn count(pages: &[u8], lists: &[u8], kind: usize) -> CountResult
-    ensures { CountPost pages.entry.now lists.entry.now kind (countedBy result) pages.exit.now lists.exit.now }
+    ensures { CountPost pages.entry.now lists.entry.now kind (counted_by result) pages.exit.now lists.exit.now }
 {
     let Header::Opened(s) = header::check_header(pages, lists) else {
         return CountResult::Refused(Refusal::Unopened);

@@ -1,19 +1,19 @@
 -- What escaping does to a list of bytes; a stored tag, a byte at a time; comparing one byte. Assumes nothing.
 use Prim.Native.Nat.{ℕ, ◌+◌, ◌*◌, ◌≤◌, ◌<◌}
-use mathlib.Core.Path.{◌≡◌, refl, sym}
+use mathlib.Core.Path.{◌≡◌, sym}
 use mathlib.Core.Logic.{◌⊎◌, inl, inr, ◌≢◌}
-use mathlib.Core.Bool.{Bool, true, false, ◌&&◌}
+use mathlib.Core.Bool.{true, false}
 use mathlib.Core.List.{[], ◌∷◌, ◌++◌, append_assoc}
 use native.Mathlib.Numerals.{add-one}
 use native.Mathlib.Omega.{arith}
 use lib.Dec.{eqb}
-use lib.ListN.{length, get_or, take, drop, length-append, drop_of_length-le}
+use lib.ListN.{length, get_or, drop, length-append, drop_of_length-le}
 use lib.Seq.{drop-cons}
 use borrow.Author.Tests.{eqb-true, eqb-false}
-use Rattle.slices.specs.Bytes.{Bytes, sameBytes}
+use Rattle.slices.specs.Bytes.{Bytes}
 use Rattle.slices.proofs.Tests.{Split, split}
 use Rattle.encoding.specs.declared.Form.{Form}
-use Rattle.encoding.specs.Encoding.{escape, escaped, isLong, tagBytes, formOf, firstByte, encodedByte, encodedEnd, encoded}
+use Rattle.encoding.specs.Encoding.{escape, escaped, is_long, tag_bytes, form_of, first_byte, encoded_byte, encoded_end, encoded}
 
 -- The three ways in which a byte is stored.
 abbrev pub EscapeCases : ℕ → Type 0
@@ -46,23 +46,23 @@ length-escaped (x ∷ s) = omega (arith, length-escape x, length-escaped s, leng
 -- ---- what is stored, a byte at a time
 
 -- What is left at i begins with x, which is stored for the byte at i.
-pub encoded-more : (form : Form) (i : ℕ) (s x : Bytes) → i < length s → x ≡ encodedByte form (get_or s i 0)
+pub encoded-more : (form : Form) (i : ℕ) (s x : Bytes) → i < length s → x ≡ encoded_byte form (get_or s i 0)
     → encoded form (drop i s) ≡ x ++ encoded form (drop (i + 1) s)
 unfolding encoded
 encoded-more form i s x l e = rw (e, add-one, drop-cons s i 0)
 
 -- At the end x is left, which is stored there.
-pub encoded-end : (form : Form) (i : ℕ) (s x : Bytes) → length s ≤ i → x ≡ encodedEnd form → encoded form (drop i s) ≡ x
+pub encoded-end : (form : Form) (i : ℕ) (s x : Bytes) → length s ≤ i → x ≡ encoded_end form → encoded form (drop i s) ≡ x
 unfolding encoded
 encoded-end form i s x l e = rw (e, drop_of_length-le s l)
 
 encoded-short : (form : Form) (s : Bytes) → form.long ≡ false → encoded form s ≡ s
-unfolding encoded encodedByte
+unfolding encoded encoded_byte
 encoded-short form [] e = rw e
 encoded-short form (b ∷ s) e = rw (encoded-short form s e, e)
 
 encoded-long : (form : Form) (s : Bytes) → form.long ≡ true → encoded form s ≡ escaped s ++ 62 ∷ []
-unfolding encoded encodedByte escaped
+unfolding encoded encoded_byte escaped
 encoded-long form [] e = rw e
 encoded-long form (b ∷ s) e = rw (encoded-long form s e, e) (sym (append_assoc (escape b) (escaped s) (62 ∷ [])))
 
@@ -74,12 +74,12 @@ length-encoded form s = go (split form.long)
     go (inr p) = rw (encoded-short form s p) (omega arith)
 
 -- The stored tag: the byte in front, and what stands behind it.
-pub tag-bytes : (tag : Bytes) → tagBytes tag ≡ firstByte tag ∷ encoded (formOf tag) tag
-unfolding tagBytes
-tag-bytes tag = go (split (isLong tag))
+pub tag-bytes : (tag : Bytes) → tag_bytes tag ≡ first_byte tag ∷ encoded (form_of tag) tag
+unfolding tag_bytes
+tag-bytes tag = go (split (is_long tag))
   where
-    go : Split (isLong tag) → tagBytes tag ≡ firstByte tag ∷ encoded (formOf tag) tag
-    go (inl p) = rw (encoded-long (formOf tag) tag p, p)
-    go (inr p) = rw (encoded-short (formOf tag) tag p, p)
+    go : Split (is_long tag) → tag_bytes tag ≡ first_byte tag ∷ encoded (form_of tag) tag
+    go (inl p) = rw (encoded-long (form_of tag) tag p, p)
+    go (inr p) = rw (encoded-short (form_of tag) tag p, p)
 
 -- ---- comparing one byte

@@ -14,43 +14,43 @@ escaped [] = []
 escaped (b ∷ s) = escape b ++ escaped s
 
 -- A tag in front of its text. Up to 127 bytes: length byte, tag. Longer: 0, the tag escaped, '>'.
-abbrev pub shortTag : Bytes → Bytes
-shortTag tag = length tag ∷ tag
+abbrev pub short_tag : Bytes → Bytes
+short_tag tag = length tag ∷ tag
 
-abbrev pub longTag : Bytes → Bytes
-longTag tag = 0 ∷ escaped tag ++ 62 ∷ []
+abbrev pub long_tag : Bytes → Bytes
+long_tag tag = 0 ∷ escaped tag ++ 62 ∷ []
 
-abbrev pub isLong : Bytes → Bool
-isLong tag = not (leb (length tag) 127)
+abbrev pub is_long : Bytes → Bool
+is_long tag = not (leb (length tag) 127)
 
-unfoldable pub tagBytes : Bytes → Bytes
-tagBytes tag = cond (isLong tag) (longTag tag) (shortTag tag)
+unfoldable pub tag_bytes : Bytes → Bytes
+tag_bytes tag = cond (is_long tag) (long_tag tag) (short_tag tag)
 
 -- ---- the same, a byte at a time: the loops of the code follow these definitions (`tag-bytes` of proofs/Laws.antt)
 
 -- How the bytes of a tag are stored.
-abbrev pub formOf : Bytes → Form
-formOf tag = record { long = isLong tag }
+abbrev pub form_of : Bytes → Form
+form_of tag = record { long = is_long tag }
 
 -- The byte in front of a tag.
-abbrev pub firstByte : Bytes → ℕ
-firstByte tag = cond (isLong tag) 0 (length tag)
+abbrev pub first_byte : Bytes → ℕ
+first_byte tag = cond (is_long tag) 0 (length tag)
 
 -- One byte of a tag as it is stored.
-unfoldable pub encodedByte : Form → ℕ → Bytes
-encodedByte form b = cond form.long (escape b) (b ∷ [])
+unfoldable pub encoded_byte : Form → ℕ → Bytes
+encoded_byte form b = cond form.long (escape b) (b ∷ [])
 
 -- What is stored behind the last byte.
-abbrev pub encodedEnd : Form → Bytes
-encodedEnd form = cond form.long (62 ∷ []) []
+abbrev pub encoded_end : Form → Bytes
+encoded_end form = cond form.long (62 ∷ []) []
 
 -- What stands behind the byte in front.
 unfoldable pub encoded : Form → Bytes → Bytes
-encoded form [] = encodedEnd form
-encoded form (b ∷ tag) = encodedByte form b ++ encoded form tag
+encoded form [] = encoded_end form
+encoded form (b ∷ tag) = encoded_byte form b ++ encoded form tag
 
 -- The bytes that the code's answer for one byte, or for the end, holds.
-abbrev pub storedBytes : Stored → Bytes
-storedBytes Nothing = []
-storedBytes (One a) = a ∷ []
-storedBytes (Two a b) = a ∷ b ∷ []
+abbrev pub stored_bytes : Stored → Bytes
+stored_bytes Nothing = []
+stored_bytes (One a) = a ∷ []
+stored_bytes (Two a b) = a ∷ b ∷ []

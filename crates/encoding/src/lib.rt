@@ -3,9 +3,9 @@
 
 ghost use Rattle.std.specs.Prelude.{◌≡◌, [], ◌∷◌, ◌+◌, ◌≤◌, length, take, drop};
 ghost use Rattle.std.proofs.lemmas.List.Edits.{sets};
-ghost use Rattle.fnv.specs.Fnv.{fnvFrom};
-ghost use Rattle.slices.specs.Bytes.{sameBytes};
-ghost use Rattle.encoding.specs.Encoding.{formOf, firstByte, encodedByte, encodedEnd, storedBytes};
+ghost use Rattle.fnv.specs.Fnv.{fnv_from};
+ghost use Rattle.slices.specs.Bytes.{same_bytes};
+ghost use Rattle.encoding.specs.Encoding.{form_of, first_byte, encoded_byte, encoded_end, stored_bytes};
 
 // The most bytes of a tag that is stored with its length in front.
 pub const SHORT: usize = 127;
@@ -27,7 +27,7 @@ pub enum Stored {
 
 // The only test of the length.
 pub fn form_of(tag: &[u8]) -> Form
-    ensures { result ≡ formOf tag.now }
+    ensures { result ≡ form_of tag.now }
 {
     Form {
         long: tag.len() > SHORT,
@@ -36,7 +36,7 @@ pub fn form_of(tag: &[u8]) -> Form
 
 // The byte in front of a tag.
 pub fn first_byte(tag: &[u8]) -> u8
-    ensures { result ≡ firstByte tag.now }
+    ensures { result ≡ first_byte tag.now }
 {
     let form = form_of(tag);
     if form.long {
@@ -47,7 +47,7 @@ pub fn first_byte(tag: &[u8]) -> u8
 
 // How a byte of a tag is stored. Only this function knows the escapes.
 pub fn encode_byte(form: Form, b: u8) -> Stored
-    ensures { storedBytes result ≡ encodedByte form b }
+    ensures { stored_bytes result ≡ encoded_byte form b }
 {
     if !form.long {
         return Stored::One(b);
@@ -63,7 +63,7 @@ pub fn encode_byte(form: Form, b: u8) -> Stored
 
 // What is stored behind the last byte.
 pub fn encode_end(form: Form) -> Stored
-    ensures { storedBytes result ≡ encodedEnd form }
+    ensures { stored_bytes result ≡ encoded_end form }
 {
     if form.long {
         return Stored::One(b'>');
@@ -72,7 +72,7 @@ pub fn encode_end(form: Form) -> Stored
 }
 
 pub fn width(u: Stored) -> usize
-    ensures { result ≡ length (storedBytes u) }
+    ensures { result ≡ length (stored_bytes u) }
 {
     match u {
         Stored::Nothing => 0,
@@ -83,8 +83,8 @@ pub fn width(u: Stored) -> usize
 
 // Stores u at `at`, and gives the position past it.
 pub fn put_stored(dst: &mut [u8], at: usize, u: Stored) -> usize
-    requires { at + length (storedBytes u) ≤ length dst.old }
-    ensures { (result ≡ at + length (storedBytes u)) × (dst.new ≡ sets dst.old at (storedBytes u)) }
+    requires { at + length (stored_bytes u) ≤ length dst.old }
+    ensures { (result ≡ at + length (stored_bytes u)) × (dst.new ≡ sets dst.old at (stored_bytes u)) }
 {
     match u {
         Stored::Nothing => at,
@@ -101,7 +101,7 @@ pub fn put_stored(dst: &mut [u8], at: usize, u: Stored) -> usize
 }
 
 pub fn hash_stored(h: u32, u: Stored) -> u32
-    ensures { result ≡ fnvFrom h (storedBytes u) }
+    ensures { result ≡ fnv_from h (stored_bytes u) }
 {
     match u {
         Stored::Nothing => h,
@@ -112,7 +112,7 @@ pub fn hash_stored(h: u32, u: Stored) -> u32
 
 // Whether the byte a stands at `at`.
 pub fn has_byte(stored: &[u8], at: usize, a: u8) -> bool
-    ensures { result ≡ sameBytes (a ∷ []) (take 1 (drop at stored.now)) }
+    ensures { result ≡ same_bytes (a ∷ []) (take 1 (drop at stored.now)) }
 {
     if stored.len() <= at {
         return false;
@@ -122,8 +122,8 @@ pub fn has_byte(stored: &[u8], at: usize, a: u8) -> bool
 
 // Whether u stands at `at`.
 pub fn has_stored(stored: &[u8], at: usize, u: Stored) -> bool
-    requires { at + length (storedBytes u) ≤ length stored.now }
-    ensures { result ≡ sameBytes (storedBytes u) (take (length (storedBytes u)) (drop at stored.now)) }
+    requires { at + length (stored_bytes u) ≤ length stored.now }
+    ensures { result ≡ same_bytes (stored_bytes u) (take (length (stored_bytes u)) (drop at stored.now)) }
 {
     match u {
         Stored::Nothing => true,

@@ -9,24 +9,24 @@ use native.Mathlib.Nat.{mod-lt}
 use lib.ListN.{length}
 use lib.Pow.{pow_pos, high}
 use Rattle.slices.specs.Bytes.{Bytes}
-use Rattle.words.specs.Words.{wordAt}
+use Rattle.words.specs.Words.{word_at}
 use Rattle.refusals.specs.declared.Refusal.{Refusal}
 use Rattle.refusals.specs.declared.Refusal.TheVariants.{Unopened}
 use Rattle.layout.specs.declared.Sizes.{Sizes}
-use Rattle.layout.specs.Sizes.{pageBytes, listBytes, kinds}
+use Rattle.layout.specs.Sizes.{page_bytes, list_bytes, kinds}
 use Rattle.layout.specs.Lent.{Lent}
 use Rattle.bytes_buffer.specs.declared.Spot.{Spot}
-use Rattle.bytes_buffer.specs.Pages.{allPages}
-use Rattle.bytes_buffer.specs.Spots.{spotIn, untakenAfter}
+use Rattle.bytes_buffer.specs.Pages.{all_pages}
+use Rattle.bytes_buffer.specs.Spots.{spot_in, untaken_after}
 use Rattle.bytes_key.specs.declared.Key.{Key}
 use Rattle.bytes_index.specs.Search.{Searched}
 use Rattle.bytes_index.specs.declared.Probe.TheVariants.{Free}
-use Rattle.bytes_dictionary.specs.Written.{pagesAfter, listsAfter}
+use Rattle.bytes_dictionary.specs.Written.{pages_after, lists_after}
 use Rattle.model.specs.Names.{Name}
 use Rattle.model.specs.Answers.{AddAnswer}
 use Rattle.model.specs.Kinds.{row}
 use Rattle.model.specs.State.{State}
-use Rattle.model.specs.Steps.{checks, nameHead, newHead, keyOf, refuse, decide, addAnswer, afterAdd}
+use Rattle.model.specs.Steps.{checks, name_head, new_head, key_of, refuse, decide, add_answer, after_add}
 use Rattle.model.proofs.Table.{main-below, head-below}
 use Rattle.memory.specs.Stands.{Stands}
 use Rattle.memory.specs.Promises.{InBlocks}
@@ -37,7 +37,7 @@ use Rattle.plan.specs.declared.Plan.{Plan}
 use Rattle.plan.specs.declared.Planned.{Planned}
 use Rattle.plan.specs.declared.Planned.TheVariants.{Ready, Refused}
 use Rattle.plan.specs.Plans.{NoRoom, full, headless, pageless, blockless, ReadyName, PlanFits, Plans}
-use Rattle.commit.specs.Written.{namePages, nameLists}
+use Rattle.commit.specs.Written.{name_pages, name_lists}
 use Rattle.enter.specs.Added.{CarriedOut, EntersName, AddsName}
 
 -- A fresh number is in its block.
@@ -46,29 +46,29 @@ fresh-in-blocks s g n l = rw (high g s.w (mod-lt n (pow_pos s.w))) l
 
 -- What an add was given, at a state: is the head a new one, which one is it, its number, and the key.
 pub record NewIn (st : State) (a : Name) (new : Bool) (f : ℕ) (head key : Bytes) : Type 0 where
-  pub new_is : newHead a (st.part a.kind) ≡ new
-  pub headed : new ≡ true → nameHead a ≡ head
+  pub new_is : new_head a (st.part a.kind) ≡ new
+  pub headed : new ≡ true → name_head a ≡ head
   pub numbered : new ≡ true → length (st.part a.kind).heads ≡ f
-  pub keyed : keyOf (st.part a.kind).heads a ≡ key
+  pub keyed : key_of (st.part a.kind).heads a ≡ key
 
 -- ---- at a state, of a legal name
 
 module _ {s : Sizes} {st : State} {pages lists : Bytes} (S : Stands s st pages lists) (a : Name) (legal : checks s a ≡ none) (place hplace : ℕ) where
   -- The name's own head and key may have other names.
   renamed : {f : ℕ} {head key : Bytes} (N : NewIn st a true f head key) (P : ℕ → Bytes → Bytes → Type 0)
-      → P (length (st.part a.kind).heads) (nameHead a) (keyOf (st.part a.kind).heads a) → P f head key
+      → P (length (st.part a.kind).heads) (name_head a) (key_of (st.part a.kind).heads a) → P f head key
   renamed {f} {head} {key} N P p =
       subst (λ (n : ℕ). P n head key) (N.numbered refl)
       (subst (λ (x : Bytes). P (length (st.part a.kind).heads) x key) (N.headed refl)
-      (subst (λ (y : Bytes). P (length (st.part a.kind).heads) (nameHead a) y) N.keyed p))
+      (subst (λ (y : Bytes). P (length (st.part a.kind).heads) (name_head a) y) N.keyed p))
 
   -- The plan found no room.
-  refused : (new : Bool) (f : ℕ) (head key : Bytes) → NewIn st a new f head key → Searched s (row a.kind).mainAt pages lists key (Free place) → (new ≡ false → f < s.e)
+  refused : (new : Bool) (f : ℕ) (head key : Bytes) → NewIn st a new f head key → Searched s (row a.kind).main_at pages lists key (Free place) → (new ≡ false → f < s.e)
       → (why : Refusal) → NoRoom s st lists a.kind new f (length head) (length key) why → decide s st a ≡ refuse why
   refused true f head key N q few why R =
       renamed N (λ n x y. NoRoom s st lists a.kind true n (length x) (length y) why → decide s st a ≡ refuse why) (go why) R
     where
-      go : (w : Refusal) → NoRoom s st lists a.kind true (length (st.part a.kind).heads) (length (nameHead a)) (length (keyOf (st.part a.kind).heads a)) w
+      go : (w : Refusal) → NoRoom s st lists a.kind true (length (st.part a.kind).heads) (length (name_head a)) (length (key_of (st.part a.kind).heads a)) w
           → decide s st a ≡ refuse w
       go w (full o) = full-both S a legal N.new_is o
       go w (headless n m t e) = pageless-both S a legal N.new_is m n _ refl _ refl (inl e)
@@ -76,14 +76,14 @@ module _ {s : Sizes} {st : State} {pages lists : Bytes} (S : Stands s st pages l
       go w (blockless n m h i b) = blockless-both S a legal N.new_is m n _ refl _ refl (h refl) i b
   refused false f head key N q few why R =
       subst
-      (λ (y : Bytes). Searched s (row a.kind).mainAt pages lists y (Free place) → NoRoom s st lists a.kind false f (length head) (length y) why → decide s st a ≡ refuse why)
+      (λ (y : Bytes). Searched s (row a.kind).main_at pages lists y (Free place) → NoRoom s st lists a.kind false f (length head) (length y) why → decide s st a ≡ refuse why)
       N.keyed
       (go why)
       q
       R
     where
-      go : (w : Refusal) → Searched s (row a.kind).mainAt pages lists (keyOf (st.part a.kind).heads a) (Free place)
-          → NoRoom s st lists a.kind false f (length head) (length (keyOf (st.part a.kind).heads a)) w
+      go : (w : Refusal) → Searched s (row a.kind).main_at pages lists (key_of (st.part a.kind).heads a) (Free place)
+          → NoRoom s st lists a.kind false f (length head) (length (key_of (st.part a.kind).heads a)) w
           → decide s st a ≡ refuse w
       go w r (full (inl h)) = full-one S a legal N.new_is place r h
       go w r (full (inr h)) = absurd (omega (arith, few refl))
@@ -94,17 +94,17 @@ module _ {s : Sizes} {st : State} {pages lists : Bytes} (S : Stands s st pages l
   -- The memory after the writes of the plan.
   Written : Plan → ℕ → Bytes → Bytes → Type 0
   Written x f head key =
-      (AddAnswer.fresh (x.g * 2 ^ s.w + x.n % 2 ^ s.w) ≡ addAnswer s st a)
-      × Stands s (afterAdd s st a) (namePages s pages x head key) (nameLists s lists a.kind f hplace place x head key)
+      (AddAnswer.fresh (x.g * 2 ^ s.w + x.n % 2 ^ s.w) ≡ add_answer s st a)
+      × Stands s (after_add s st a) (name_pages s pages x head key) (name_lists s lists a.kind f hplace place x head key)
 
-  written : (new : Bool) (f : ℕ) (head key : Bytes) → NewIn st a new f head key → Searched s (row a.kind).mainAt pages lists key (Free place)
-      → (new ≡ true → Searched s (row a.kind).headsAt pages lists head (Free hplace))
+  written : (new : Bool) (f : ℕ) (head key : Bytes) → NewIn st a new f head key → Searched s (row a.kind).main_at pages lists key (Free place)
+      → (new ≡ true → Searched s (row a.kind).heads_at pages lists head (Free hplace))
       → {size len : ℕ} (x : Plan) → PlanFits s new f size len x → ReadyName s st lists a.kind new (length head) (length key) x
       → Written x f head key
-  unfolding namePages nameLists Written pagesAfter listsAfter
+  unfolding name_pages name_lists Written pages_after lists_after
   written true f head key N q u x F R =
       renamed N
-      (λ n h y. Searched s (row a.kind).mainAt pages lists y (Free place) → Searched s (row a.kind).headsAt pages lists h (Free hplace) → n < s.e
+      (λ n h y. Searched s (row a.kind).main_at pages lists y (Free place) → Searched s (row a.kind).heads_at pages lists h (Free hplace) → n < s.e
       → ReadyName s st lists a.kind true (length h) (length y) x
       → Written x n h y)
       (λ q u l R.
@@ -119,7 +119,7 @@ module _ {s : Sizes} {st : State} {pages lists : Bytes} (S : Stands s st pages l
         head-planned = R.head;
         head-spotted = F.head-spotted refl;
         planned = subst
-            (λ (y : Spot). spotIn s (wordAt lists) (row a.kind).mainAt (untakenAfter (allPages st.space) y) (length (keyOf (st.part a.kind).heads a)) ≡ x.spot)
+            (λ (y : Spot). spot_in s (word_at lists) (row a.kind).main_at (untaken_after (all_pages st.space) y) (length (key_of (st.part a.kind).heads a)) ≡ x.spot)
             R.head
             R.spot;
         spotted = F.spotted;
@@ -132,7 +132,7 @@ module _ {s : Sizes} {st : State} {pages lists : Bytes} (S : Stands s st pages l
       R
   written false f head key N q u x F R =
       subst
-      (λ (y : Bytes). Searched s (row a.kind).mainAt pages lists y (Free place) → ReadyName s st lists a.kind false (length head) (length y) x → Written x f head y)
+      (λ (y : Bytes). Searched s (row a.kind).main_at pages lists y (Free place) → ReadyName s st lists a.kind false (length head) (length y) x → Written x f head y)
       N.keyed
       (λ q R.
       let e = enter_one S
@@ -155,29 +155,29 @@ module _ (s : Sizes) (pages lists : Bytes) (a : Name) where
       subst (λ (x : AddAnswer). AddsName s a pages lists x pages' lists') (sym e)
       (subst (λ (x : Bytes). AddsName s a pages lists r₁ x lists') (sym p) (subst (AddsName s a pages lists r₁ pages₁) (sym l) h))
 
-  module _ (L : Lent s pages lists kinds a.kind) (key_of : Key) (place : ℕ) (new : Bool) (f hplace hhash : ℕ) (head key : Bytes)
+  module _ (L : Lent s pages lists kinds a.kind) (its_key : Key) (place : ℕ) (new : Bool) (f hplace hhash : ℕ) (head key : Bytes)
       (hp : hplace < 2 * s.e)
-      (searched : Searched s (row a.kind).mainAt pages lists key (Free place))
-      (hsearched : new ≡ true → Searched s (row a.kind).headsAt pages lists head (Free hplace))
+      (searched : Searched s (row a.kind).main_at pages lists key (Free place))
+      (hsearched : new ≡ true → Searched s (row a.kind).heads_at pages lists head (Free hplace))
       (few : new ≡ false → f < s.e)
       (means : (st : State) → Stands s st pages lists → checks s a ≡ none → NewIn st a new f head key) where
     fresh : (x : Plan) → Plans s lists a.kind new f (length head) (length key) (Ready x)
-        → AddsName s a pages lists (AddAnswer.fresh (x.g * 2 ^ s.w + x.n % 2 ^ s.w)) (namePages s pages x head key)
-        (nameLists s lists a.kind f hplace place x head key)
-    unfolding namePages nameLists Written pagesAfter listsAfter
+        → AddsName s a pages lists (AddAnswer.fresh (x.g * 2 ^ s.w + x.n % 2 ^ s.w)) (name_pages s pages x head key)
+        (name_lists s lists a.kind f hplace place x head key)
+    unfolding name_pages name_lists Written pages_after lists_after
     fresh x H =
         let F = H.bounded in
-        let pages₁ : Bytes = pagesAfter s pages x.head head in
-        let lists₁ : Bytes = listsAfter s lists (row a.kind).headsAt f hplace x.head x.stamp head in
-        let lists₂ : Bytes = listsAfter s lists₁ (row a.kind).mainAt x.n place x.spot x.stamp key in
-        let A = insert-beyond s pages lists (row a.kind).headsAt f hplace x.head x.stamp head L.ranged L.pages-fit L.lists-fit (head-below a.kind) F.heads hp
+        let pages₁ : Bytes = pages_after s pages x.head head in
+        let lists₁ : Bytes = lists_after s lists (row a.kind).heads_at f hplace x.head x.stamp head in
+        let lists₂ : Bytes = lists_after s lists₁ (row a.kind).main_at x.n place x.spot x.stamp key in
+        let A = insert-beyond s pages lists (row a.kind).heads_at f hplace x.head x.stamp head L.ranged L.pages-fit L.lists-fit (head-below a.kind) F.heads hp
         F.head-room in
-        let pages-fit : pageBytes s ≤ length pages₁ = omega (arith, A.pages-length, L.pages-fit) in
-        let lists-fit : listBytes s ≤ length lists₁ = omega (arith, A.lists_length, L.lists-fit) in
-        let B = insert-beyond s pages₁ lists₁ (row a.kind).mainAt x.n place x.spot x.stamp key L.ranged pages-fit lists-fit (main-below a.kind) F.number
+        let pages-fit : page_bytes s ≤ length pages₁ = omega (arith, A.pages-length, L.pages-fit) in
+        let lists-fit : list_bytes s ≤ length lists₁ = omega (arith, A.lists_length, L.lists-fit) in
+        let B = insert-beyond s pages₁ lists₁ (row a.kind).main_at x.n place x.spot x.stamp key L.ranged pages-fit lists-fit (main-below a.kind) F.number
         searched.range
         F.room in
-        let fit : listBytes s ≤ length lists₂ = omega (arith, B.lists_length, lists-fit) in
+        let fit : list_bytes s ≤ length lists₂ = omega (arith, B.lists_length, lists-fit) in
         record {
           bounded = fresh-in-blocks s x.g x.n F.block;
           kept = λ g. absurd (g _ refl);
@@ -197,12 +197,12 @@ module _ (s : Sizes) (pages lists : Bytes) (a : Name) where
               rw d (refl, S);
         }
 
-    pub adds : (r : AddAnswer) (pages' lists' : Bytes) → EntersName s pages lists (record { k = a.kind; key = key_of; place = place; newhead = new; f = f; headplace = hplace; headhash = hhash }) head key r pages' lists'
+    pub adds : (r : AddAnswer) (pages' lists' : Bytes) → EntersName s pages lists (record { k = a.kind; key = its_key; place = place; newhead = new; f = f; headplace = hplace; headhash = hhash }) head key r pages' lists'
         → AddsName s a pages lists r pages' lists'
     adds r pages' lists' E = go E.plan E.planned E.carried
       where
         go : (p : Planned) → Plans s lists a.kind new f (length head) (length key) p
-            → CarriedOut s pages lists (record { k = a.kind; key = key_of; place = place; newhead = new; f = f; headplace = hplace; headhash = hhash }) head key p r pages' lists'
+            → CarriedOut s pages lists (record { k = a.kind; key = its_key; place = place; newhead = new; f = f; headplace = hplace; headhash = hhash }) head key p r pages' lists'
             → AddsName s a pages lists r pages' lists'
         go (Refused why) H c = as-left c.0 c.1 c.2 (none-entered why H)
         go (Ready x) H c = as-left c.0 c.1 c.2 (fresh x H)

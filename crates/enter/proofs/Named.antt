@@ -8,11 +8,11 @@ use mathlib.Core.Option.{none}
 use native.Mathlib.Omega.{arith}
 use lib.ListN.{length}
 use Rattle.slices.specs.Bytes.{Bytes}
-use Rattle.words.specs.Words.{wordAt}
+use Rattle.words.specs.Words.{word_at}
 use Rattle.refusals.specs.declared.Refusal.TheVariants.{Unopened}
 use Rattle.layout.specs.declared.Sizes.{Sizes}
 use Rattle.layout.specs.Sizes.{kinds}
-use Rattle.layout.specs.Fields.{countAt}
+use Rattle.layout.specs.Fields.{count_at}
 use Rattle.layout.specs.Lent.{Lent}
 use Rattle.ranked_pair_dictionary.specs.FrequentId.{fid}
 use Rattle.bytes_key.specs.declared.Key.{Key}
@@ -21,12 +21,12 @@ use Rattle.bytes_index.specs.declared.Probe.TheVariants as P
 use Rattle.bytes_index.specs.Search.{Searched}
 use Rattle.bytes_dictionary.specs.declared.Counted.{Counted}
 use Rattle.bytes_dictionary.specs.declared.Counted.TheVariants as C
-use Rattle.bytes_dictionary.specs.Reading.{countIn}
+use Rattle.bytes_dictionary.specs.Reading.{count_in}
 use Rattle.model.specs.Names.{Name}
 use Rattle.model.specs.Answers.{AddAnswer}
 use Rattle.model.specs.Kinds.{row}
 use Rattle.model.specs.State.{State}
-use Rattle.model.specs.Steps.{checks, keyOf}
+use Rattle.model.specs.Steps.{checks, key_of}
 use Rattle.memory.specs.Stands.{Stands}
 use Rattle.memory.proofs.Probes.{main-bad}
 use Rattle.memory.proofs.Counts.{head-counted}
@@ -35,29 +35,29 @@ use Rattle.memory.proofs.Beyond.{beyond-same}
 use Rattle.memory.proofs.Entered.{known-one, key-new, head-missing}
 use Rattle.search.specs.declared.Sought.{Sought}
 use Rattle.search.specs.declared.Search.TheVariants.{Bad}
-use Rattle.search.specs.Found.{keyBehind, KeyEnded, HeadEnded, EndedBy}
+use Rattle.search.specs.Found.{key_behind, KeyEnded, HeadEnded, EndedBy}
 use Rattle.search.proofs.Ends.{own_key, own_new, tells}
 use Rattle.commit.specs.declared.AddResult.{AddResult}
 use Rattle.commit.specs.declared.AddResult.TheVariants.{Fresh, Known, Refused}
-use Rattle.commit.specs.Answers.{addedBy, KnownBounded, Knows}
+use Rattle.commit.specs.Answers.{added_by, KnownBounded, Knows}
 use Rattle.enter.specs.Added.{EntersName, AddsName}
 use Rattle.enter.proofs.Adds.{never, adds}
 
 -- The word of the count of a kind's heads.
-abbrev pub headWord : Bytes → ℕ → ℕ
-headWord lists k = wordAt lists (countAt (row k).headsAt)
+abbrev pub head_word : Bytes → ℕ → ℕ
+head_word lists k = word_at lists (count_at (row k).heads_at)
 
 -- A count that was read in a kind's dictionary of heads.
-pub counted-head : (s : Sizes) (lists : Bytes) (k d : ℕ) (r x : Counted) → d ≡ (row k).headsAt → r ≡ countIn s (wordAt lists (countAt d)) → r ≡ x
-    → countIn s (headWord lists k) ≡ x
-counted-head s lists k d r x q e f = ap (λ (j : ℕ). countIn s (wordAt lists (countAt j))) (sym q) ∙ sym e ∙ f
+pub counted-head : (s : Sizes) (lists : Bytes) (k d : ℕ) (r x : Counted) → d ≡ (row k).heads_at → r ≡ count_in s (word_at lists (count_at d)) → r ≡ x
+    → count_in s (head_word lists k) ≡ x
+counted-head s lists k d r x q e f = ap (λ (j : ℕ). count_in s (word_at lists (count_at j))) (sym q) ∙ sym e ∙ f
 
 module _ (s : Sizes) (pages lists : Bytes) (a : Name) (L : Lent s pages lists kinds a.kind) (x : Sought) where
   -- ---- nothing is written
 
   -- The name is stored.
   pub adds-known : (i : ℕ) (K : KeyEnded s pages lists a.kind ((row a.kind).head a) ((row a.kind).rest a) x (P.At i)) (r : AddResult) → Knows s lists a.kind i r
-      → AddsName s a pages lists (addedBy r) pages lists
+      → AddsName s a pages lists (added_by r) pages lists
   adds-known i K r H =
       record {
         bounded = bound r H.bounded;
@@ -65,11 +65,11 @@ module _ (s : Sizes) (pages lists : Bytes) (a : Name) (L : Lent s pages lists ki
         beyond = beyond-same s pages lists;
         whole = λ st S legal.
             let o = own_key S a legal x (P.At i) K in
-            let e = known-one S a legal o.0 i (subst (λ (y : Bytes). Searched s (row a.kind).mainAt pages lists y (P.At i)) (sym o.1) K.searched) in
+            let e = known-one S a legal o.0 i (subst (λ (y : Bytes). Searched s (row a.kind).main_at pages lists y (P.At i)) (sym o.1) K.searched) in
             rw e.0 (H.right st.blocks S.blocked e.1, S);
       }
     where
-      bound : (y : AddResult) → KnownBounded s y → AddBounded s (addedBy y)
+      bound : (y : AddResult) → KnownBounded s y → AddBounded s (added_by y)
       bound (Fresh n) h = absurd h
       bound (Known n) h = h
       bound (Refused why) h = inl h
@@ -81,13 +81,13 @@ module _ (s : Sizes) (pages lists : Bytes) (a : Name) (L : Lent s pages lists ki
   -- ---- the name is entered
 
   -- The head is stored, or the kind has none: one entry.
-  pub adds-key : (place : ℕ) (K : KeyEnded s pages lists a.kind ((row a.kind).head a) ((row a.kind).rest a) x (P.Free place)) (key_of : Key) (hhash : ℕ) (key : Bytes)
-      → keyBehind a.kind K.f ((row a.kind).rest a) ≡ key
+  pub adds-key : (place : ℕ) (K : KeyEnded s pages lists a.kind ((row a.kind).head a) ((row a.kind).rest a) x (P.Free place)) (its_key : Key) (hhash : ℕ) (key : Bytes)
+      → key_behind a.kind K.f ((row a.kind).rest a) ≡ key
       → (r : AddAnswer) (pages' lists' : Bytes)
-      → EntersName s pages lists (record { k = a.kind; key = key_of; place = place; newhead = false; f = 0; headplace = 0; headhash = hhash }) [] key r pages' lists'
+      → EntersName s pages lists (record { k = a.kind; key = its_key; place = place; newhead = false; f = 0; headplace = 0; headhash = hhash }) [] key r pages' lists'
       → AddsName s a pages lists r pages' lists'
-  adds-key place K key_of hhash key e =
-      adds s pages lists a L key_of place false 0 0 hhash [] key (omega (arith, L.ranged.e)) (subst (λ (y : Bytes). Searched s (row a.kind).mainAt pages lists y (P.Free place)) e K.searched)
+  adds-key place K its_key hhash key e =
+      adds s pages lists a L its_key place false 0 0 hhash [] key (omega (arith, L.ranged.e)) (subst (λ (y : Bytes). Searched s (row a.kind).main_at pages lists y (P.Free place)) e K.searched)
       (λ w. absurd (false≢true w))
       (λ w. omega (arith, L.ranged.e))
       (λ st S legal.
@@ -96,38 +96,38 @@ module _ (s : Sizes) (pages lists : Bytes) (a : Name) (L : Lent s pages lists ki
 
   -- The head is not stored, and its search ended at hplace: the head and its pair.
   module _ (hplace : ℕ) (H : HeadEnded s pages lists a.kind ((row a.kind).head a) x (P.Free hplace)) where
-    pub uncounted : countIn s (headWord lists a.kind) ≡ C.Bad → AddsName s a pages lists (AddAnswer.refused Unopened) pages lists
+    pub uncounted : count_in s (head_word lists a.kind) ≡ C.Bad → AddsName s a pages lists (AddAnswer.refused Unopened) pages lists
     uncounted e =
         never s pages lists a
         (λ st S legal.
         let f : C.Bad ≡ C.Entries (length (st.part a.kind).heads) = sym e ∙ head-counted S a.kind L.known H.paired in
         let z : ◌≡◌ {A = ℕ} 0 1 = cc in omega arith)
 
-    module _ (f : ℕ) (counted : countIn s (headWord lists a.kind) ≡ C.Entries f) where
+    module _ (f : ℕ) (counted : count_in s (head_word lists a.kind) ≡ C.Entries f) where
       heads-are : {st : State} → Stands s st pages lists → length (st.part a.kind).heads ≡ f
       heads-are {st} S = let e : C.Entries f ≡ C.Entries (length (st.part a.kind).heads) = sym counted ∙ head-counted S a.kind L.known H.paired in cc
 
-      key-is : {st : State} → Stands s st pages lists → checks s a ≡ none → keyOf (st.part a.kind).heads a ≡ fid f ++ (row a.kind).rest a
+      key-is : {st : State} → Stands s st pages lists → checks s a ≡ none → key_of (st.part a.kind).heads a ≡ fid f ++ (row a.kind).rest a
       key-is S legal = key-new S a legal (own_new S a legal x hplace H) ∙ ap (λ (n : ℕ). fid n ++ (row a.kind).rest a) (heads-are S)
 
       -- A pair with the number that the head is about to get is never there.
-      pub occupied : (r : Probe) → ((j : ℕ) → r ≡ P.Free j → ⊥) → Searched s (row a.kind).mainAt pages lists (fid f ++ (row a.kind).rest a) r
+      pub occupied : (r : Probe) → ((j : ℕ) → r ≡ P.Free j → ⊥) → Searched s (row a.kind).main_at pages lists (fid f ++ (row a.kind).rest a) r
           → AddsName s a pages lists (AddAnswer.refused Unopened) pages lists
       occupied (P.At i) t q =
           never s pages lists a
           (λ st S legal.
-          head-missing S a legal (own_new S a legal x hplace H) i (subst (λ (y : Bytes). Searched s (row a.kind).mainAt pages lists y (P.At i)) (sym (key-is S legal)) q))
+          head-missing S a legal (own_new S a legal x hplace H) i (subst (λ (y : Bytes). Searched s (row a.kind).main_at pages lists y (P.At i)) (sym (key-is S legal)) q))
       occupied (P.Free j) t q = absurd (t j refl)
       occupied P.Bad t q = never s pages lists a (λ st S legal. main-bad s st pages lists S a.kind L.known _ q)
 
-      pub adds-pair : (place : ℕ) (key_of : Key) (hhash : ℕ) (head key : Bytes) → (row a.kind).head a ≡ head → fid f ++ (row a.kind).rest a ≡ key
-          → Searched s (row a.kind).mainAt pages lists key (P.Free place)
+      pub adds-pair : (place : ℕ) (its_key : Key) (hhash : ℕ) (head key : Bytes) → (row a.kind).head a ≡ head → fid f ++ (row a.kind).rest a ≡ key
+          → Searched s (row a.kind).main_at pages lists key (P.Free place)
           → (r : AddAnswer) (pages' lists' : Bytes)
-          → EntersName s pages lists (record { k = a.kind; key = key_of; place = place; newhead = true; f = f; headplace = hplace; headhash = hhash }) head key r pages' lists'
+          → EntersName s pages lists (record { k = a.kind; key = its_key; place = place; newhead = true; f = f; headplace = hplace; headhash = hhash }) head key r pages' lists'
           → AddsName s a pages lists r pages' lists'
-      adds-pair place key_of hhash head key h e q =
-          adds s pages lists a L key_of place true f hplace hhash head key H.searched.range q
-          (λ w. subst (λ (y : Bytes). Searched s (row a.kind).headsAt pages lists y (P.Free hplace)) h H.searched)
+      adds-pair place its_key hhash head key h e q =
+          adds s pages lists a L its_key place true f hplace hhash head key H.searched.range q
+          (λ w. subst (λ (y : Bytes). Searched s (row a.kind).heads_at pages lists y (P.Free hplace)) h H.searched)
           (λ w. absurd (false≢true (sym w)))
           (λ st S legal. record {
             new_is = own_new S a legal x hplace H;

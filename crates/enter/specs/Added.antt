@@ -6,22 +6,22 @@ use Rattle.layout.specs.declared.Sizes.{Sizes}
 use Rattle.model.specs.Names.{Name}
 use Rattle.model.specs.Answers.{AddAnswer}
 use Rattle.model.specs.State.{State}
-use Rattle.model.specs.Steps.{checks, addAnswer, afterAdd}
+use Rattle.model.specs.Steps.{checks, add_answer, after_add}
 use Rattle.memory.specs.Stands.{Stands}
 use Rattle.memory.specs.Promises.{SameBeyond, AddBounded}
 use Rattle.plan.specs.declared.Planned.{Planned}
 use Rattle.plan.specs.declared.Planned.TheVariants.{Ready, Refused}
 use Rattle.plan.specs.Plans.{Plans}
 use Rattle.commit.specs.declared.NewName.{NewName}
-use Rattle.commit.specs.Written.{namePages, nameLists}
+use Rattle.commit.specs.Written.{name_pages, name_lists}
 
 -- A plan carried out: a refusal leaves all as found, else the number is fresh and the plan is written.
 abbrev pub CarriedOut : Sizes → Bytes → Bytes → NewName → Bytes → Bytes → Planned → AddAnswer → Bytes → Bytes → Type 0
 CarriedOut s pages lists w head key (Refused why) r pages' lists' = (r ≡ AddAnswer.refused why) × (pages' ≡ pages) × (lists' ≡ lists)
 CarriedOut s pages lists w head key (Ready x) r pages' lists' =
     (r ≡ AddAnswer.fresh (x.g * 2 ^ s.w + x.n % 2 ^ s.w))
-    × (pages' ≡ namePages s pages x head key)
-    × (lists' ≡ nameLists s lists w.k w.f w.headplace w.place x head key)
+    × (pages' ≡ name_pages s pages x head key)
+    × (lists' ≡ name_lists s lists w.k w.f w.headplace w.place x head key)
 
 pub record EntersName (s : Sizes) (pages lists : Bytes) (w : NewName) (head key : Bytes) (r : AddAnswer) (pages' lists' : Bytes) : Type 0 where
   pub plan : Planned
@@ -34,4 +34,4 @@ pub record AddsName (s : Sizes) (a : Name) (pages lists : Bytes) (r : AddAnswer)
   pub bounded : AddBounded s r
   pub kept : ((n : ℕ) → ¬ (r ≡ AddAnswer.fresh n)) → (pages' ≡ pages) × (lists' ≡ lists)
   pub beyond : SameBeyond s pages lists pages' lists'
-  pub whole : (st : State) → Stands s st pages lists → checks s a ≡ none → (r ≡ addAnswer s st a) × Stands s (afterAdd s st a) pages' lists'
+  pub whole : (st : State) → Stands s st pages lists → checks s a ≡ none → (r ≡ add_answer s st a) × Stands s (after_add s st a) pages' lists'

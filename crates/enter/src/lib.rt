@@ -3,16 +3,16 @@
 
 ghost use Rattle.std.specs.Prelude.{◌≡◌, ◌*◌, ◌≤◌, ◌<◌, length};
 ghost use Rattle.std.proofs.Math.Option.{none};
-ghost use Rattle.fnv.specs.Fnv.{fnvOf};
-ghost use Rattle.layout.specs.Sizes.{kinds, pageSize};
+ghost use Rattle.fnv.specs.Fnv.{fnv_of};
+ghost use Rattle.layout.specs.Sizes.{kinds, page_size};
 ghost use Rattle.layout.specs.Lent.{Lent};
-ghost use Rattle.bytes_key.specs.Keys.{bytesIn, IsKey};
+ghost use Rattle.bytes_key.specs.Keys.{bytes_in, IsKey};
 ghost use Rattle.model.specs.Names.{entered};
 ghost use Rattle.model.specs.Kinds.{row};
-ghost use Rattle.model.specs.Steps.{shapeRefusal};
+ghost use Rattle.model.specs.Steps.{shape_refusal};
 ghost use Rattle.search.specs.declared.Place.TheVariants as P;
 ghost use Rattle.search.specs.Found.{PlaceEnded};
-ghost use Rattle.commit.specs.Answers.{addedBy};
+ghost use Rattle.commit.specs.Answers.{added_by};
 ghost use Rattle.enter.specs.Added.{EntersName, AddsName};
 
 use bytes_dictionary::Counted;
@@ -35,10 +35,10 @@ fn enter_name(
     front: &[u8],
     rest: &[u8],
 ) -> AddResult
-    requires lent { Lent s pages.old lists.old kinds w.k × (w.headplace < 2 * s.e) × (w.place < 2 * s.e) × (w.key.d ≡ (row w.k).mainAt) }
-    requires key { IsKey w.key front.now rest.now × (w.headhash ≡ fnvOf head.now) }
-    requires head_len_bound { (length head.now ≤ pageSize s) × (length (bytesIn w.key front.now rest.now) ≤ pageSize s) }
-    ensures { EntersName s pages.old lists.old w head.now (bytesIn w.key front.now rest.now) (addedBy result) pages.new lists.new }
+    requires lent { Lent s pages.old lists.old kinds w.k × (w.headplace < 2 * s.e) × (w.place < 2 * s.e) × (w.key.d ≡ (row w.k).main_at) }
+    requires key { IsKey w.key front.now rest.now × (w.headhash ≡ fnv_of head.now) }
+    requires head_len_bound { (length head.now ≤ page_size s) × (length (bytes_in w.key front.now rest.now) ≤ page_size s) }
+    ensures { EntersName s pages.old lists.old w head.now (bytes_in w.key front.now rest.now) (added_by result) pages.new lists.new }
 {
     let key = w.key;
     let len = bytes_key::key_length(key, front, rest);
@@ -59,9 +59,9 @@ fn add_str<'a>(
     x: Sought,
     place: usize,
 ) -> AddResult
-    requires lent { Lent s pages.old lists.old kinds kind × (shapeRefusal s (entered kind first.now second.now) ≡ none) }
+    requires lent { Lent s pages.old lists.old kinds kind × (shape_refusal s (entered kind first.now second.now) ≡ none) }
     requires place_ended { PlaceEnded s pages.old lists.old (entered kind first.now second.now) x (P.Key place) }
-    ensures { AddsName s (entered kind first.now second.now) pages.old lists.old (addedBy result) pages.new lists.new }
+    ensures { AddsName s (entered kind first.now second.now) pages.old lists.old (added_by result) pages.new lists.new }
 {
     let none = &first[..0];
     let key = Key {
@@ -102,9 +102,9 @@ fn add_pair<'a>(
     x: Sought,
     headplace: usize,
 ) -> AddResult
-    requires lent { Lent s pages.old lists.old kinds kind × (shapeRefusal s (entered kind first.now second.now) ≡ none) }
+    requires lent { Lent s pages.old lists.old kinds kind × (shape_refusal s (entered kind first.now second.now) ≡ none) }
     requires place_ended { PlaceEnded s pages.old lists.old (entered kind first.now second.now) x (P.Head headplace) }
-    ensures { AddsName s (entered kind first.now second.now) pages.old lists.old (addedBy result) pages.new lists.new }
+    ensures { AddsName s (entered kind first.now second.now) pages.old lists.old (added_by result) pages.new lists.new }
 {
     let Counted::Entries(f) = bytes_dictionary::count(lists, s, kind_table::head_dictionary(kind))
     else {
@@ -148,9 +148,9 @@ pub fn add_name<'a>(
     x: Sought,
     place: Place,
 ) -> AddResult
-    requires lent { Lent s pages.old lists.old kinds kind × (shapeRefusal s (entered kind first.now second.now) ≡ none) }
+    requires lent { Lent s pages.old lists.old kinds kind × (shape_refusal s (entered kind first.now second.now) ≡ none) }
     requires place_ended { PlaceEnded s pages.old lists.old (entered kind first.now second.now) x place }
-    ensures { AddsName s (entered kind first.now second.now) pages.old lists.old (addedBy result) pages.new lists.new }
+    ensures { AddsName s (entered kind first.now second.now) pages.old lists.old (added_by result) pages.new lists.new }
 {
     match place {
         Place::Key(j) => add_str(pages, lists, s, kind, first, second, x, j),

@@ -1,21 +1,21 @@
 -- All the examples hold, computed together. Assumes nothing.
 use mathlib.Core.Path.{refl}
-use Rattle.layout.specs.Sizes.{nameLimit, limit}
-use Rattle.utf8.specs.Text.{first_of, isText}
+use Rattle.layout.specs.Sizes.{name_limit, limit}
+use Rattle.utf8.specs.Text.{first_of, is_text}
 use Rattle.encoding.specs.Encoding.{escape, escaped}
 use Rattle.ranked_pair_iri_dv_dict.specs.Split.{head_of}
-use Rattle.ranked_pair_dictionary.specs.FrequentId.{furtherBytes, frequentId, fid, writeRefusal, writeFidAnswer, writeFidBuffer}
-use Rattle.string_dv_dict.specs.Packed.{packed, pairRefusal}
-use Rattle.string_dv_dict.specs.Answers.{packAnswer, packBuffer}
-use Rattle.bytes_buffer.specs.Pages.{fits, grown, grownAt, allPages}
-use Rattle.blocks.specs.Rule.{blockRule}
+use Rattle.ranked_pair_dictionary.specs.FrequentId.{further_bytes, frequent_id, fid, write_refusal, write_fid_answer, write_fid_buffer}
+use Rattle.string_dv_dict.specs.Packed.{packed, pair_refusal}
+use Rattle.string_dv_dict.specs.Answers.{pack_answer, pack_buffer}
+use Rattle.bytes_buffer.specs.Pages.{fits, grown, grown_at, all_pages}
+use Rattle.blocks.specs.Rule.{block_rule}
 use Rattle.blocks.specs.Blocks.{pick}
 use Rattle.model.specs.State.{number_of}
-use Rattle.model.specs.Steps.{shapeRefusal, textRefusal, checks, room, decide, extended}
+use Rattle.model.specs.Steps.{shape_refusal, text_refusal, checks, room, decide, extended}
 use Rattle.examples.specs.Examples.{Examples}
 
 pub examples : Examples
-unfolding nameLimit limit blockRule first_of isText escape escaped head_of furtherBytes frequentId fid writeRefusal writeFidAnswer writeFidBuffer packed pairRefusal packAnswer packBuffer fits grown grownAt allPages pick number_of shapeRefusal textRefusal checks room decide extended
+unfolding name_limit limit block_rule first_of is_text escape escaped head_of further_bytes frequent_id fid write_refusal write_fid_answer write_fid_buffer packed pair_refusal pack_answer pack_buffer fits grown grown_at all_pages pick number_of shape_refusal text_refusal checks room decide extended
 examples = record {
   m1-m3 = refl;
   m1-m2-rests = refl;

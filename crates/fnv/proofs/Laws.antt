@@ -8,62 +8,62 @@ use lib.Seq.{drop-cons}
 use native.Mathlib.Numerals.{add-one}
 use native.Mathlib.Omega.{arith}
 use Rattle.slices.specs.Bytes.{Bytes}
-use Rattle.fnv.specs.Fnv.{fnvStep, fnvFrom, fnvOf, bitsFrom}
+use Rattle.fnv.specs.Fnv.{fnv_step, fnv_from, fnv_of, bits_from}
 
 -- One list after the other: the hash of the first is taken on over the second.
-pub fnv-append : (a b : Bytes) (h : ℕ) → fnvFrom h (a ++ b) ≡ fnvFrom (fnvFrom h a) b
-unfolding fnvFrom
+pub fnv-append : (a b : Bytes) (h : ℕ) → fnv_from h (a ++ b) ≡ fnv_from (fnv_from h a) b
+unfolding fnv_from
 fnv-append [] b h = refl
-fnv-append (x ∷ a) b h = fnv-append a b (fnvStep h x)
+fnv-append (x ∷ a) b h = fnv-append a b (fnv_step h x)
 
-pub fnv-of-append : (a b : Bytes) → fnvOf (a ++ b) ≡ fnvFrom (fnvOf a) b
-unfolding fnvOf
+pub fnv-of-append : (a b : Bytes) → fnv_of (a ++ b) ≡ fnv_from (fnv_of a) b
+unfolding fnv_of
 fnv-of-append a b = fnv-append a b 2166136261
 
 -- The byte at i is the next one.
-pub fnv-more : (h i : ℕ) (s : Bytes) → i < length s → fnvFrom h (drop i s) ≡ fnvFrom (fnvStep h (get_or s i 0)) (drop (i + 1) s)
-unfolding fnvFrom
+pub fnv-more : (h i : ℕ) (s : Bytes) → i < length s → fnv_from h (drop i s) ≡ fnv_from (fnv_step h (get_or s i 0)) (drop (i + 1) s)
+unfolding fnv_from
 fnv-more h i s l = rw (add-one, drop-cons s i 0)
 
-pub fnv-end : (h i : ℕ) (s : Bytes) → length s ≤ i → fnvFrom h (drop i s) ≡ h
-unfolding fnvFrom
+pub fnv-end : (h i : ℕ) (s : Bytes) → length s ≤ i → fnv_from h (drop i s) ≡ h
+unfolding fnv_from
 fnv-end h i s l = rw (drop_of_length-le s l)
 
 -- The hash is a number of 32 bits.
-pub fnv-from-lt : (s : Bytes) (h : ℕ) → h < 2 ^ 32 → fnvFrom h s < 2 ^ 32
-unfolding fnvFrom fnvStep
+pub fnv-from-lt : (s : Bytes) (h : ℕ) → h < 2 ^ 32 → fnv_from h s < 2 ^ 32
+unfolding fnv_from fnv_step
 fnv-from-lt [] h l = l
 fnv-from-lt (b ∷ s) h l = fnv-from-lt s (bit_xor h b * 16777619 % 2 ^ 32) (omega arith)
 
-pub fnv-lt : (s : Bytes) → fnvOf s < 2 ^ 32
-unfolding fnvOf
+pub fnv-lt : (s : Bytes) → fnv_of s < 2 ^ 32
+unfolding fnv_of
 fnv-lt s = fnv-from-lt s 2166136261 (omega arith)
 
 -- ---- the bits
 
-pub bits-append : (a b : Bytes) (x : ℕ) → bitsFrom x (a ++ b) ≡ bitsFrom (bitsFrom x a) b
-unfolding bitsFrom
+pub bits-append : (a b : Bytes) (x : ℕ) → bits_from x (a ++ b) ≡ bits_from (bits_from x a) b
+unfolding bits_from
 bits-append [] b x = refl
 bits-append (y ∷ a) b x = bits-append a b (bit_or x y)
 
-pub bits-more : (b i : ℕ) (s : Bytes) → i < length s → bitsFrom b (drop i s) ≡ bitsFrom (bit_or b (get_or s i 0)) (drop (i + 1) s)
-unfolding bitsFrom
+pub bits-more : (b i : ℕ) (s : Bytes) → i < length s → bits_from b (drop i s) ≡ bits_from (bit_or b (get_or s i 0)) (drop (i + 1) s)
+unfolding bits_from
 bits-more b i s l = rw (add-one, drop-cons s i 0)
 
-pub bits-end : (b i : ℕ) (s : Bytes) → length s ≤ i → bitsFrom b (drop i s) ≡ b
-unfolding bitsFrom
+pub bits-end : (b i : ℕ) (s : Bytes) → length s ≤ i → bits_from b (drop i s) ≡ b
+unfolding bits_from
 bits-end b i s l = rw (drop_of_length-le s l)
 
 or-least : (a b : ℕ) → (a ≤ bit_or a b) × (b ≤ bit_or a b)
 or-least a b = (omega (arith, or_add_and a b, and_le_r a b), omega (arith, or_add_and a b, and_le_l a b))
 
 -- No bit is lost.
-pub bits-least : (s : Bytes) (b : ℕ) → b ≤ bitsFrom b s
-unfolding bitsFrom
+pub bits-least : (s : Bytes) (b : ℕ) → b ≤ bits_from b s
+unfolding bits_from
 bits-least [] b = omega arith
 bits-least (x ∷ s) b = omega (arith, bits-least s (bit_or b x), or-least b x)
 
 -- Nor one of a byte.
-pub bits-first : (x : ℕ) (s : Bytes) (b : ℕ) → x ≤ bitsFrom b (x ∷ s)
-unfolding bitsFrom
+pub bits-first : (x : ℕ) (s : Bytes) (b : ℕ) → x ≤ bits_from b (x ∷ s)
+unfolding bits_from
 bits-first x s b = omega (arith, bits-least s (bit_or b x), or-least b x)

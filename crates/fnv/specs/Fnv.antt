@@ -4,18 +4,18 @@ use Rattle.std.specs.Int.Bits.{bit_or, bit_xor}
 use Rattle.slices.specs.Bytes.{Bytes}
 
 -- The hash h, extended by the byte b.
-unfoldable pub fnvStep : ℕ → ℕ → ℕ
-fnvStep h b = bit_xor h b * 16777619 % 2 ^ 32
+unfoldable pub fnv_step : ℕ → ℕ → ℕ
+fnv_step h b = bit_xor h b * 16777619 % 2 ^ 32
 
 -- The hash h, extended by the bytes, first to last.
-unfoldable pub fnvFrom : ℕ → Bytes → ℕ
-fnvFrom h [] = h
-fnvFrom h (b ∷ s) = fnvFrom (fnvStep h b) s
+unfoldable pub fnv_from : ℕ → Bytes → ℕ
+fnv_from h [] = h
+fnv_from h (b ∷ s) = fnv_from (fnv_step h b) s
 
-unfoldable pub fnvOf : Bytes → ℕ
-fnvOf s = fnvFrom 2166136261 s
+unfoldable pub fnv_of : Bytes → ℕ
+fnv_of s = fnv_from 2166136261 s
 
 -- The bitwise or of b and all bytes.
-unfoldable pub bitsFrom : ℕ → Bytes → ℕ
-bitsFrom b [] = b
-bitsFrom b (x ∷ s) = bitsFrom (bit_or b x) s
+unfoldable pub bits_from : ℕ → Bytes → ℕ
+bits_from b [] = b
+bits_from b (x ∷ s) = bits_from (bit_or b x) s

@@ -2,7 +2,7 @@
 #![tactic(auto)]
 
 ghost use Rattle.std.specs.Prelude.{◌≡◌, ◌*◌, ◌%◌, ◌^◌, ◌<◌};
-ghost use Rattle.fnv.specs.Fnv.{fnvStep, fnvFrom, fnvOf, bitsFrom};
+ghost use Rattle.fnv.specs.Fnv.{fnv_step, fnv_from, fnv_of, bits_from};
 
 // The hash of no bytes.
 pub const START: u32 = 2166136261;
@@ -18,7 +18,7 @@ pub fn wrapping_mul(a: u32, b: u32) -> u32
 
 // Extends the hash h by one byte.
 pub fn fnv_step(h: u32, b: u8) -> u32
-    ensures { result ≡ fnvStep h b }
+    ensures { result ≡ fnv_step h b }
 {
     wrapping_mul(h ^ b as u32, 16777619)
 }
@@ -32,7 +32,7 @@ pub struct Scanned {
 
 // Extends the hash `start` and the bits by the bytes of s. Each step of the hash waits for the one before, so the bits cost no time.
 pub fn scan(start: u32, bits: u8, s: &[u8]) -> Scanned
-    ensures { (result.h ≡ fnvFrom start s.now) × (result.bits ≡ bitsFrom bits s.now) }
+    ensures { (result.h ≡ fnv_from start s.now) × (result.bits ≡ bits_from bits s.now) }
 {
     let mut h = start;
     let mut seen = bits;
@@ -47,7 +47,7 @@ pub fn scan(start: u32, bits: u8, s: &[u8]) -> Scanned
 
 // Extends the hash `start` by the bytes of s.
 pub fn fnv_from(start: u32, s: &[u8]) -> u32
-    ensures { result ≡ fnvFrom start s.now }
+    ensures { result ≡ fnv_from start s.now }
 {
     let x = scan(start, 0, s);
     x.h
@@ -55,7 +55,7 @@ pub fn fnv_from(start: u32, s: &[u8]) -> u32
 
 // The hash of a byte string.
 pub fn fnv(s: &[u8]) -> u32
-    ensures { result ≡ fnvOf s.now }
+    ensures { result ≡ fnv_of s.now }
 {
     fnv_from(START, s)
 }

@@ -3,9 +3,9 @@
 
 ghost use Rattle.std.specs.Prelude.{◌≡◌, ◌≤◌, length, replicate};
 ghost use Rattle.std.proofs.lemmas.List.Edits.{sets};
-ghost use Rattle.layout.specs.Sizes.{InRange, listBytes};
-ghost use Rattle.header.specs.Header.{headerOf};
-ghost use Rattle.header.specs.Opened.{openedLists};
+ghost use Rattle.layout.specs.Sizes.{InRange, list_bytes};
+ghost use Rattle.header.specs.Header.{header_of};
+ghost use Rattle.header.specs.Opened.{opened_lists};
 
 use layout::{Made, Sizes};
 
@@ -20,7 +20,7 @@ pub enum Header {
 
 // The sizes of a dictionary's memory. Unopened: the memory is no dictionary's.
 pub fn check_header(pages: &[u8], lists: &[u8]) -> Header
-    ensures { result ≡ headerOf (length pages.now) lists.now }
+    ensures { result ≡ header_of (length pages.now) lists.now }
 {
     if lists.len() < 512 {
         return Header::Unopened;
@@ -61,8 +61,8 @@ fn fill_zero(s: &mut [u8], n: usize)
 
 // Makes `lists` the memory of a dictionary with no entry.
 pub fn init(lists: &mut [u8], s: Sizes)
-    requires { InRange s × (listBytes s ≤ length lists.old) }
-    ensures { lists.new ≡ openedLists s lists.old }
+    requires { InRange s × (list_bytes s ≤ length lists.old) }
+    ensures { lists.new ≡ opened_lists s lists.old }
 {
     let n = layout::list_bytes(s);
     fill_zero(lists, n);

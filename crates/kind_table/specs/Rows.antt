@@ -16,22 +16,22 @@ way_of Ways.Pairs = pairs
 
 -- The code's row is that of the table.
 pub record IsRow (x : Kind) (r : Held.Row) : Type 0 where
-  pub noSecond : r.no_second ≡ x.noSecond
-  pub needsTag : r.needs_tag ≡ x.needsTag
-  pub headsAt : r.heads ≡ x.headsAt
-  pub mainAt : r.main ≡ x.mainAt
+  pub no_second : r.no_second ≡ x.no_second
+  pub needs_tag : r.needs_tag ≡ x.needs_tag
+  pub heads_at : r.heads ≡ x.heads_at
+  pub main_at : r.main ≡ x.main_at
   pub way : way_of r.way ≡ x.way
 
 -- Does the first part split into head and rest?
-abbrev pub isSplit : Way → Bool
-isSplit splits = true
-isSplit whole = false
-isSplit packs = false
-isSplit pairs = false
+abbrev pub is_split : Way → Bool
+is_split splits = true
+is_split whole = false
+is_split packs = false
+is_split pairs = false
 
 -- How the second part is stored in front of the first, where there are no heads: a tag in its form.
-abbrev pub frontMode : Way → Mode
-frontMode splits = Raw
-frontMode whole = Raw
-frontMode packs = Tag
-frontMode pairs = Raw
+abbrev pub front_mode : Way → Mode
+front_mode splits = Raw
+front_mode whole = Raw
+front_mode packs = Tag
+front_mode pairs = Raw

@@ -4,7 +4,7 @@
 ghost use Rattle.std.specs.Prelude.{◌≡◌, ◌<◌};
 ghost use Rattle.layout.specs.Sizes.{dictionaries};
 ghost use Rattle.model.specs.Kinds.{row};
-ghost use Rattle.kind_table.specs.Rows.{IsRow, isSplit, frontMode};
+ghost use Rattle.kind_table.specs.Rows.{IsRow, is_split, front_mode};
 
 use parts::Mode;
 
@@ -75,21 +75,21 @@ pub fn row_of(kind: usize) -> Row
 
 // The dictionary of a kind's names.
 pub fn main_dictionary(kind: usize) -> usize
-    ensures { (result ≡ (row kind).mainAt) × (result < dictionaries) }
+    ensures { (result ≡ (row kind).main_at) × (result < dictionaries) }
 {
     row_of(kind).main
 }
 
 // The dictionary of a kind's heads, if it has heads.
 pub fn head_dictionary(kind: usize) -> usize
-    ensures { (result ≡ (row kind).headsAt) × (result < dictionaries) }
+    ensures { (result ≡ (row kind).heads_at) × (result < dictionaries) }
 {
     row_of(kind).heads
 }
 
 // Does the first part of the kind's names split into head and rest?
 pub fn is_split(kind: usize) -> bool
-    ensures { result ≡ isSplit (row kind).way }
+    ensures { result ≡ is_split (row kind).way }
 {
     let way = row_of(kind).way;
     match way {
@@ -115,7 +115,7 @@ pub fn has_heads(kind: usize) -> bool
 
 // How the second part of a kind without heads is stored in front of the first: a tag in its form. A plain string has none.
 pub fn front_mode(kind: usize) -> Mode
-    ensures { result ≡ frontMode (row kind).way }
+    ensures { result ≡ front_mode (row kind).way }
 {
     let way = row_of(kind).way;
     match way {

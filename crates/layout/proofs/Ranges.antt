@@ -11,7 +11,7 @@ use lib.Pow.{pow_mono}
 use Rattle.slices.proofs.Tests.{Split, split, and_left, and_right}
 use Rattle.layout.specs.declared.Sizes.{Sizes}
 use Rattle.layout.specs.declared.Made.TheVariants.{Fit, BadSize}
-use Rattle.layout.specs.Sizes.{within, in_range, InRange, made, nameLimit, limit, pageSize, pageBytes}
+use Rattle.layout.specs.Sizes.{within, in_range, InRange, made, name_limit, limit, page_size, page_bytes}
 
 pub within-facts : (lo hi x : ℕ) → within lo hi x ≡ true → (lo ≤ x) × (x ≤ hi)
 within-facts lo hi x e = (leb-true lo x (and_left (leb lo x) _ e), leb-true x hi (and_right (leb lo x) _ e))
@@ -62,29 +62,29 @@ made-bad s e = go (split (in_range s))
     go (inr p) = p
 
 -- A page has 2^13 to 2^20 bytes.
-pub page-size : (s : Sizes) → InRange s → (8192 ≤ pageSize s) × (pageSize s ≤ 1048576)
-unfolding pageSize
+pub page-size : (s : Sizes) → InRange s → (8192 ≤ page_size s) × (page_size s ≤ 1048576)
+unfolding page_size
 page-size s h = (pow_mono h.p.0, pow_mono h.p.1)
 
 -- What the layers above know of a dictionary's limit: it is not above the longest name's, and what a name stores fits a page, packed or behind a head's number.
-pub limit-within : (s : Sizes) → limit s ≤ nameLimit
+pub limit-within : (s : Sizes) → limit s ≤ name_limit
 unfolding limit
 limit-within s = omega arith
 
-pub limit-fits : (s : Sizes) → InRange s → 6 + 2 * limit s ≤ pageSize s
-unfolding nameLimit limit
+pub limit-fits : (s : Sizes) → InRange s → 6 + 2 * limit s ≤ page_size s
+unfolding name_limit limit
 limit-fits s h = omega (arith, page-size s h)
 
 -- Pages have 2^30 bytes at the most.
-pub page-bytes : (s : Sizes) → InRange s → pageBytes s ≤ 1073741824
-unfolding pageBytes
+pub page-bytes : (s : Sizes) → InRange s → page_bytes s ≤ 1073741824
+unfolding page_bytes
 page-bytes s h = mul-le-mul h.n.1 (page-size s h).1
 
 -- A part of a page lies in the pages.
-pub in-pages : (s : Sizes) (i o : ℕ) → i < s.n → o ≤ pageSize s → i * pageSize s + o ≤ pageBytes s
-unfolding pageBytes
+pub in-pages : (s : Sizes) (i o : ℕ) → i < s.n → o ≤ page_size s → i * page_size s + o ≤ page_bytes s
+unfolding page_bytes
 in-pages s i o h l =
-    let q : ℕ = pageSize s in
+    let q : ℕ = page_size s in
     let a : suc i * q ≤ s.n * q = mul-le-mul_right q h in
     let b : suc i * q ≡ i * q + q = suc-mul i q in
     omega arith

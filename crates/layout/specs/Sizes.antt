@@ -21,20 +21,20 @@ unfoldable pub made : Sizes → Made
 made s = cond (in_range s) (Fit s) BadSize
 
 -- The most bytes of a name, both parts together, and of a packed form.
-unfoldable pub nameLimit : ℕ
-nameLimit = 4000
+unfoldable pub name_limit : ℕ
+name_limit = 4000
 
-unfoldable pub packedLimit : ℕ
-packedLimit = 8002
+unfoldable pub packed_limit : ℕ
+packed_limit = 8002
 
 -- A packed form is longest if every byte of the longest name is an escaped byte of the tag.
-pub packed-from-name : packedLimit ≡ 2 + 2 * nameLimit
-unfolding nameLimit packedLimit
+pub packed-from-name : packed_limit ≡ 2 + 2 * name_limit
+unfolding name_limit packed_limit
 packed-from-name = refl
 
 -- The most bytes of a name in a dictionary of these sizes.
 unfoldable pub limit : Sizes → ℕ
-limit s = nameLimit
+limit s = name_limit
 
 -- How many kinds and dictionaries there are.
 abbrev pub kinds : ℕ
@@ -44,17 +44,17 @@ abbrev pub dictionaries : ℕ
 dictionaries = 6
 
 -- How many bytes `pages` and `lists` need.
-unfoldable pub pageSize : Sizes → ℕ
-pageSize s = 2 ^ s.p
+unfoldable pub page_size : Sizes → ℕ
+page_size s = 2 ^ s.p
 
-unfoldable pub pageBytes : Sizes → ℕ
-pageBytes s = s.n * pageSize s
+unfoldable pub page_bytes : Sizes → ℕ
+page_bytes s = s.n * page_size s
 
 -- Three words for each entry number of a dictionary, one for each block of a kind, one for each global block.
-unfoldable pub listBytes : Sizes → ℕ
-listBytes s = 8 * (64 + s.n + 3 * dictionaries * s.e + (kinds + 1) * s.b)
+unfoldable pub list_bytes : Sizes → ℕ
+list_bytes s = 8 * (64 + s.n + 3 * dictionaries * s.e + (kinds + 1) * s.b)
 
 -- As document 01 says it.
-pub list-bytes-said : (s : Sizes) → listBytes s ≡ 8 * (64 + s.n + 18 * s.e + 5 * s.b)
-unfolding listBytes
+pub list-bytes-said : (s : Sizes) → list_bytes s ≡ 8 * (64 + s.n + 18 * s.e + 5 * s.b)
+unfolding list_bytes
 list-bytes-said s = refl

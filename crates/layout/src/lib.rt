@@ -2,8 +2,8 @@
 #![tactic(auto)]
 
 ghost use Rattle.std.specs.Prelude.{◌≡◌, ◌≤◌};
-ghost use Rattle.layout.specs.Sizes.{InRange, within, made, limit, kinds, dictionaries, pageSize, pageBytes, listBytes};
-ghost use Rattle.layout.specs.Fields.{dictAt, blocksAt};
+ghost use Rattle.layout.specs.Sizes.{InRange, within, made, limit, kinds, dictionaries, page_size, page_bytes, list_bytes};
+ghost use Rattle.layout.specs.Fields.{dict_at, blocks_at};
 
 // How many kinds of names and how many dictionaries there are.
 pub const KINDS: usize = 4;
@@ -128,7 +128,7 @@ impl Sizes {
 // How many bytes a page has.
 pub fn page_size(s: Sizes) -> usize
     requires { InRange s }
-    ensures { result ≡ pageSize s }
+    ensures { result ≡ page_size s }
 {
     let p = s.p;
     1 << p
@@ -137,7 +137,7 @@ pub fn page_size(s: Sizes) -> usize
 // How many bytes `pages` needs.
 pub fn page_bytes(s: Sizes) -> usize
     requires { InRange s }
-    ensures { result ≡ pageBytes s }
+    ensures { result ≡ page_bytes s }
 {
     s.n * page_size(s)
 }
@@ -145,7 +145,7 @@ pub fn page_bytes(s: Sizes) -> usize
 // How many bytes `lists` needs.
 pub fn list_bytes(s: Sizes) -> usize
     requires { InRange s }
-    ensures { result ≡ listBytes s }
+    ensures { result ≡ list_bytes s }
 {
     8 * (PAGES + s.n + ENTRY_WORDS * s.e + BLOCK_WORDS * s.b)
 }
@@ -153,7 +153,7 @@ pub fn list_bytes(s: Sizes) -> usize
 // The first word of dictionary d. The blocks' words follow those of the last dictionary.
 pub fn dict_at(s: Sizes, d: usize) -> usize
     requires { InRange s × (d ≤ dictionaries) }
-    ensures { result ≡ dictAt s d }
+    ensures { result ≡ dict_at s d }
 {
     PAGES + s.n + d * (3 * s.e)
 }
@@ -161,7 +161,7 @@ pub fn dict_at(s: Sizes, d: usize) -> usize
 // The first word of kind k's local blocks. The global blocks' words follow those of the last kind.
 pub fn blocks_at(s: Sizes, k: usize) -> usize
     requires { InRange s × (k ≤ kinds) }
-    ensures { result ≡ blocksAt s k }
+    ensures { result ≡ blocks_at s k }
 {
     PAGES + s.n + ENTRY_WORDS * s.e + k * s.b
 }

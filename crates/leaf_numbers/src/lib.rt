@@ -3,7 +3,7 @@
 
 ghost use Rattle.std.specs.Prelude.{◌≡◌};
 ghost use Rattle.ranked_pair_iri_dv_dict.specs.Split.{length_of};
-ghost use Rattle.leaf_numbers.specs.Numbers.{yesNo, writtenNumbers, valueNumbers, unpackedNumbers};
+ghost use Rattle.leaf_numbers.specs.Numbers.{yes_no, written_numbers, value_numbers, unpacked_numbers};
 
 use ranked_pair_dictionary::FrequentId;
 use ranked_pair_iri_dv_dict::Head;
@@ -38,7 +38,7 @@ pub struct NamedictUnpacked {
 
 // 1 for yes, 0 for no.
 pub fn yes_no(answer: bool) -> u64
-    ensures { result ≡ yesNo answer }
+    ensures { result ≡ yes_no answer }
 {
     if answer { 1 } else { 0 }
 }
@@ -54,7 +54,7 @@ pub fn head_number(answer: Head) -> u64
 }
 
 pub fn written_numbers(answer: Written) -> NamedictWritten
-    ensures { result ≡ writtenNumbers answer }
+    ensures { result ≡ written_numbers answer }
 {
     match answer {
         Written::Length(n) => NamedictWritten {
@@ -69,7 +69,7 @@ pub fn written_numbers(answer: Written) -> NamedictWritten
 }
 
 pub fn value_numbers(answer: FrequentId) -> NamedictValue
-    ensures { result ≡ valueNumbers answer }
+    ensures { result ≡ value_numbers answer }
 {
     match answer {
         FrequentId::Value { value, length } => NamedictValue {
@@ -86,7 +86,7 @@ pub fn value_numbers(answer: FrequentId) -> NamedictValue
 }
 
 pub fn unpacked_numbers(answer: Unpacked) -> NamedictUnpacked
-    ensures { result ≡ unpackedNumbers answer }
+    ensures { result ≡ unpacked_numbers answer }
 {
     match answer {
         Unpacked::Lengths { text, tag } => NamedictUnpacked {

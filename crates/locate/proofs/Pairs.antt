@@ -14,32 +14,32 @@ use Rattle.slices.specs.Bytes.{Bytes}
 use Rattle.slices.proofs.Tests.{Split, split}
 use Rattle.refusals.specs.declared.Refusal.{Refusal}
 use Rattle.ranked_pair_dictionary.specs.declared.FrequentId.TheVariants.{Value, Refused}
-use Rattle.ranked_pair_dictionary.specs.FrequentId.{fid, readFurther, readFidAnswer}
+use Rattle.ranked_pair_dictionary.specs.FrequentId.{fid, read_further, read_fid_answer}
 use Rattle.ranked_pair_dictionary.proofs.Laws.{fid-read}
-use Rattle.ranked_pair_iri_dv_dict.specs.Split.{headLength}
+use Rattle.ranked_pair_iri_dv_dict.specs.Split.{head_length}
 use Rattle.layout.specs.declared.Sizes.{Sizes}
-use Rattle.layout.specs.Sizes.{kinds, pageBytes}
+use Rattle.layout.specs.Sizes.{kinds, page_bytes}
 use Rattle.bytes_dictionary.specs.declared.Lookup.{Lookup}
 use Rattle.bytes_dictionary.specs.declared.Lookup.TheVariants as K
 use Rattle.bytes_dictionary.specs.Reading.{Gives, Looked}
 use Rattle.model.specs.Names.{Name}
-use Rattle.model.specs.Kinds.{Way, splits, whole, packs, pairs, hasHeads, headBy, restBy, row}
-use Rattle.model.specs.State.{State, entryNumber}
-use Rattle.model.specs.Steps.{checks, is_none, or_else, newHead, keyOf}
-use Rattle.model.proofs.Table.{firstOnly, no_second}
+use Rattle.model.specs.Kinds.{Way, splits, whole, packs, pairs, has_heads, head_by, rest_by, row}
+use Rattle.model.specs.State.{State, entry_number}
+use Rattle.model.specs.Steps.{checks, is_none, or_else, new_head, key_of}
+use Rattle.model.proofs.Table.{first_only, no_second-row}
 use Rattle.model.proofs.Legal.{legal}
 use Rattle.model.proofs.Keys.{entry_lt}
 use Rattle.model.proofs.Parts.{is_some}
-use Rattle.kind_table.specs.Rows.{isSplit}
+use Rattle.kind_table.specs.Rows.{is_split}
 use Rattle.memory.specs.Stands.{Stands}
 use Rattle.memory.proofs.Named.{head-entry}
 use Rattle.locate.specs.declared.Located.TheVariants.{At, Bad}
-use Rattle.locate.specs.Located.{piecesIn, LocatesEntry}
+use Rattle.locate.specs.Located.{pieces_in, LocatesEntry}
 use Rattle.locate.proofs.Cuts.{length_cut, cut-behind}
 
 -- A frequent id that was read lies in the bytes.
-pub read_fits : (b : Bytes) (v n : ℕ) → readFidAnswer b ≡ Value v n → n ≤ length b
-unfolding readFidAnswer readFurther
+pub read_fits : (b : Bytes) (v n : ℕ) → read_fid_answer b ≡ Value v n → n ≤ length b
+unfolding read_fid_answer read_further
 read_fits [] v n e = let z : ◌≡◌ {A = ℕ} 0 1 = cc in absurd (omega arith)
 read_fits (x ∷ b) v n e = go (split (leb (x / 64) (length b)))
   where
@@ -54,7 +54,7 @@ read_fits (x ∷ b) v n e = go (split (leb (x / 64) (length b)))
 
 -- How many bytes of the rest belong to the first part: all where the first part splits, and else none.
 abbrev pub Moved : Way → ℕ → ℕ → Type 0
-Moved w rest m = ((isSplit w ≡ true) × (m ≡ rest)) ⊎ ((isSplit w ≡ false) × (m ≡ 0))
+Moved w rest m = ((is_split w ≡ true) × (m ≡ rest)) ⊎ ((is_split w ≡ false) × (m ≡ 0))
 
 pub moved-le : (w : Way) (rest m : ℕ) → Moved w rest m → m ≤ rest
 moved-le w rest m (inl h) = omega arith
@@ -62,14 +62,14 @@ moved-le w rest m (inr h) = omega arith
 
 -- Head and rest are both parts, one after the other.
 module _ (s : Sizes) (a : Name) (passes : checks s a ≡ none) where
-  pub joined : (w : Way) → (row a.kind).way ≡ w → hasHeads w ≡ true → (m : ℕ) → Moved w (length (restBy w a)) m
-      → (headBy w a ++ restBy w a ≡ a.first ++ a.second)
-      × (length (headBy w a) + m ≡ length a.first)
-      × (length (restBy w a) - m ≡ length a.second)
+  pub joined : (w : Way) → (row a.kind).way ≡ w → has_heads w ≡ true → (m : ℕ) → Moved w (length (rest_by w a)) m
+      → (head_by w a ++ rest_by w a ≡ a.first ++ a.second)
+      × (length (head_by w a) + m ≡ length a.first)
+      × (length (rest_by w a) - m ≡ length a.second)
   joined splits v pair m (inl h) =
-      let t : a.second ≡ [] = (legal s a passes).shape.second (no_second a.kind (ap firstOnly v)) in
-      let f : headBy splits a ++ restBy splits a ≡ a.first = take-append-drop (headLength a.first) a.first in
-      let l : length (headBy splits a) + length (restBy splits a) ≡ length a.first = simp length-append at (ap length f) in
+      let t : a.second ≡ [] = (legal s a passes).shape.second (no_second-row a.kind (ap first_only v)) in
+      let f : head_by splits a ++ rest_by splits a ≡ a.first = take-append-drop (head_length a.first) a.first in
+      let l : length (head_by splits a) + length (rest_by splits a) ≡ length a.first = simp length-append at (ap length f) in
       let o : length a.second ≡ 0 = ap length t in
       (f ∙ rw t (sym (append-nil a.first)), omega (arith, h.1), omega (arith, h.1))
   joined splits v pair m (inr h) = absurd (false≢true (sym h.0))
@@ -85,23 +85,23 @@ no_part pages key K.Nothing p g = g
 no_part pages key K.Bad p g = g
 
 module _ (s : Sizes) (pages lists : Bytes) (k at len : ℕ) (known : k < kinds) (pair : (row k).paired ≡ true)
-    (there : pageBytes s ≤ length pages) (fits : at + len ≤ pageBytes s) where
+    (there : page_bytes s ≤ length pages) (fits : at + len ≤ page_bytes s) where
   -- What the entry of a name begins with.
   record Begins (a : Name) (st : State) : Type 0 where
     f : ℕ
-    stored : entryNumber ((row k).head a) (st.part k).heads ≡ some f
+    stored : entry_number ((row k).head a) (st.part k).heads ≡ some f
     bytes : take len (drop at pages) ≡ fid f ++ (row k).rest a
-    reads : readFidAnswer (take len (drop at pages)) ≡ Value f (length (fid f))
+    reads : read_fid_answer (take len (drop at pages)) ≡ Value f (length (fid f))
 
-  begins : (st : State) (a : Name) → Stands s st pages lists → a.kind ≡ k → newHead a (st.part k) ≡ false
-      → take len (drop at pages) ≡ keyOf (st.part k).heads a
+  begins : (st : State) (a : Name) → Stands s st pages lists → a.kind ≡ k → new_head a (st.part k) ≡ false
+      → take len (drop at pages) ≡ key_of (st.part k).heads a
       → Begins a st
   begins st a S q old e =
       let hs = (st.part k).heads in
-      let o = subst (λ (j : ℕ). ((row j).paired && is_none (entryNumber ((row j).head a) hs)) ≡ false) q old in
-      let h = is_some (entryNumber ((row k).head a) hs) (rw pair at o) in
+      let o = subst (λ (j : ℕ). ((row j).paired && is_none (entry_number ((row j).head a) hs)) ≡ false) q old in
+      let h = is_some (entry_number ((row k).head a) hs) (rw pair at o) in
       let d = subst
-      (λ (j : ℕ). take len (drop at pages) ≡ cond (row j).paired (fid (or_else (length hs) (entryNumber ((row j).head a) hs)) ++ (row j).rest a) ((row j).rest a))
+      (λ (j : ℕ). take len (drop at pages) ≡ cond (row j).paired (fid (or_else (length hs) (entry_number ((row j).head a) hs)) ++ (row j).rest a) ((row j).rest a))
       q e in
       let b : take len (drop at pages) ≡ fid h.0 ++ (row k).rest a = rw (pair, h.1) at d in
       let low : h.0 < length (st.part k).heads = entry_lt ((row k).head a) (st.part k).heads h.0 h.1 in
@@ -109,19 +109,19 @@ module _ (s : Sizes) (pages lists : Bytes) (k at len : ℕ) (known : k < kinds) 
         f = h.0;
         stored = h.1;
         bytes = b;
-        reads = ap readFidAnswer b ∙ fid-read h.0 ((row k).rest a) (omega (arith, low, (S.good.part k).fewHeads, S.good.sizes.e));
+        reads = ap read_fid_answer b ∙ fid-read h.0 ((row k).rest a) (omega (arith, low, (S.good.part k).few_heads, S.good.sizes.e));
       }
 
   -- The lookup of the head whose number was read.
-  head-given : (st : State) (a : Name) → Stands s st pages lists → Begins a st → (v n : ℕ) → readFidAnswer (take len (drop at pages)) ≡ Value v n
-      → (r : Lookup) → Looked s (row k).headsAt v lists r → Gives pages (some ((row k).head a)) r
+  head-given : (st : State) (a : Name) → Stands s st pages lists → Begins a st → (v n : ℕ) → read_fid_answer (take len (drop at pages)) ≡ Value v n
+      → (r : Lookup) → Looked s (row k).heads_at v lists r → Gives pages (some ((row k).head a)) r
   head-given st a S B v n e r look =
       let u : Value v n ≡ Value B.f (length (fid B.f)) = sym e ∙ B.reads in
       let w : v ≡ B.f = cc in
-      let h : S.store.entries (row k).headsAt v ≡ some ((row k).head a) = rw w (head-entry s st pages lists S k known pair B.f ((row k).head a) B.stored) in
+      let h : S.store.entries (row k).heads_at v ≡ some ((row k).head a) = rw w (head-entry s st pages lists S k known pair B.f ((row k).head a) B.stored) in
       rw h at (look.right pages S.store there S.stored)
 
-  pub bad-lead : (why : Refusal) → readFidAnswer (take len (drop at pages)) ≡ Refused why → LocatesEntry s pages lists k at len Bad
+  pub bad-lead : (why : Refusal) → read_fid_answer (take len (drop at pages)) ≡ Refused why → LocatesEntry s pages lists k at len Bad
   bad-lead why e =
       record {
         range = tt;
@@ -130,8 +130,8 @@ module _ (s : Sizes) (pages lists : Bytes) (k at len : ℕ) (known : k < kinds) 
             let z : ◌≡◌ {A = ℕ} 0 1 = cc in absurd (omega arith);
       }
 
-  module _ (v n : ℕ) (e : readFidAnswer (take len (drop at pages)) ≡ Value v n) where
-    pub bad-head : (r : Lookup) → ((at len : ℕ) → r ≡ K.At at len → ⊥) → Looked s (row k).headsAt v lists r
+  module _ (v n : ℕ) (e : read_fid_answer (take len (drop at pages)) ≡ Value v n) where
+    pub bad-head : (r : Lookup) → ((at len : ℕ) → r ≡ K.At at len → ⊥) → Looked s (row k).heads_at v lists r
         → LocatesEntry s pages lists k at len Bad
     bad-head r t look =
         record { range = tt; right = λ st a S p q old h. no_part pages ((row k).head a) r t (head-given st a S (begins st a S q old h) v n e r look) }
@@ -139,7 +139,7 @@ module _ (s : Sizes) (pages lists : Bytes) (k at len : ℕ) (known : k < kinds) 
     pub lead-within : n ≤ len
     lead-within = omega (arith, read_fits (take len (drop at pages)) v n e, length_cut pages at len (omega arith))
 
-    pub located-pair : (from size m : ℕ) → Looked s (row k).headsAt v lists (K.At from size) → Moved (row k).way (len - n) m
+    pub located-pair : (from size m : ℕ) → Looked s (row k).heads_at v lists (K.At from size) → Moved (row k).way (len - n) m
         → LocatesEntry s pages lists k at len (At (record {
           kind = k;
           first = size + m;
@@ -150,7 +150,7 @@ module _ (s : Sizes) (pages lists : Bytes) (k at len : ℕ) (known : k < kinds) 
           back_len = len - n;
           escaped = false;
         }))
-    unfolding piecesIn
+    unfolding pieces_in
     located-pair from size m look M =
         let low : m ≤ len - n = moved-le (row k).way (len - n) m M in
         let inner : n ≤ len = lead-within in

@@ -4,9 +4,9 @@
 ghost use Rattle.std.specs.Prelude.{◌≡◌, true, ◌++◌, ◌+◌, ◌≤◌, ◌<◌, length, drop};
 ghost use Rattle.std.proofs.lemmas.List.Edits.{sets};
 ghost use Rattle.slices.specs.Bytes.{Bytes};
-ghost use Rattle.layout.specs.Sizes.{InRange, kinds, pageBytes, listBytes};
+ghost use Rattle.layout.specs.Sizes.{InRange, kinds, page_bytes, list_bytes};
 ghost use Rattle.model.specs.Kinds.{whole, packs, row};
-ghost use Rattle.locate.specs.Located.{unescapedIf, piecesIn, Copyable, LocatesEntry, LocatesAlone, LocatesName};
+ghost use Rattle.locate.specs.Located.{unescaped_if, pieces_in, Copyable, LocatesEntry, LocatesAlone, LocatesName};
 
 use bytes_dictionary::{EntryId, Lookup};
 use kind_table::Way;
@@ -40,8 +40,8 @@ pub enum Located {
 
 // Where a name lies whose entry is a head's frequent id and the rest.
 fn locate_pair(pages: &[u8], lists: &[u8], s: Sizes, k: usize, at: usize, len: usize) -> Located
-    requires in_range { InRange s × (pageBytes s ≤ length pages.now) × (listBytes s ≤ length lists.now) }
-    requires k_lt_kinds { (k < kinds) × ((row k).paired ≡ true) × (at + len ≤ pageBytes s) }
+    requires in_range { InRange s × (page_bytes s ≤ length pages.now) × (list_bytes s ≤ length lists.now) }
+    requires k_lt_kinds { (k < kinds) × ((row k).paired ≡ true) × (at + len ≤ page_bytes s) }
     ensures { LocatesEntry s pages.now lists.now k at len result }
 {
     let lead = ranked_pair_dictionary::read_frequent_id(bytes_dictionary::id_to_bytes(
@@ -136,8 +136,8 @@ fn locate_plain(k: usize, at: usize, len: usize) -> Located
 }
 
 fn locate_entry(pages: &[u8], lists: &[u8], s: Sizes, k: usize, at: usize, len: usize) -> Located
-    requires in_range { InRange s × (pageBytes s ≤ length pages.now) × (listBytes s ≤ length lists.now) }
-    requires k_lt_kinds { (k < kinds) × (at + len ≤ pageBytes s) }
+    requires in_range { InRange s × (page_bytes s ≤ length pages.now) × (list_bytes s ≤ length lists.now) }
+    requires k_lt_kinds { (k < kinds) × (at + len ≤ page_bytes s) }
     ensures { LocatesEntry s pages.now lists.now k at len result }
 {
     let way = kind_table::row_of(k).way;
@@ -151,7 +151,7 @@ fn locate_entry(pages: &[u8], lists: &[u8], s: Sizes, k: usize, at: usize, len: 
 
 // The name that has a number.
 pub fn locate_name(pages: &[u8], lists: &[u8], s: Sizes, number: GlobalId) -> Located
-    requires { InRange s × (pageBytes s ≤ length pages.now) × (listBytes s ≤ length lists.now) }
+    requires { InRange s × (page_bytes s ≤ length pages.now) × (list_bytes s ≤ length lists.now) }
     ensures { LocatesName s pages.now lists.now number.0 result }
 {
     match meta_dv_dict::global_to_local(lists, s, number) {
@@ -170,8 +170,8 @@ pub fn locate_name(pages: &[u8], lists: &[u8], s: Sizes, number: GlobalId) -> Lo
 
 // Writes the piece at `at`. If it is escaped, the escapes are undone.
 fn write_piece(piece: &[u8], escaped: bool, buffer: &mut [u8], at: usize)
-    requires { at + length (unescapedIf escaped piece.now) ≤ length buffer.old }
-    ensures { buffer.new ≡ sets buffer.old at (unescapedIf escaped piece.now) }
+    requires { at + length (unescaped_if escaped piece.now) ≤ length buffer.old }
+    ensures { buffer.new ≡ sets buffer.old at (unescaped_if escaped piece.now) }
 {
     if escaped {
         string_dv_dict_unpack::write_unescaped(piece, buffer, at);
@@ -183,7 +183,7 @@ fn write_piece(piece: &[u8], escaped: bool, buffer: &mut [u8], at: usize)
 // Writes a located name at the buffer's start: the first part, then the second.
 pub fn copy_name(pages: &[u8], x: Pieces, buffer: &mut [u8])
     requires { Copyable pages.now x × (x.first + x.second ≤ length buffer.old) }
-    ensures { buffer.new ≡ piecesIn pages.now x ++ drop (x.first + x.second) buffer.old }
+    ensures { buffer.new ≡ pieces_in pages.now x ++ drop (x.first + x.second) buffer.old }
 {
     let front = bytes_dictionary::id_to_bytes(pages, x.front_at, x.front_len);
     let back = bytes_dictionary::id_to_bytes(pages, x.back_at, x.back_len);

@@ -7,13 +7,13 @@ use lib.ListN.{length, get_or, drop, length-drop}
 use lib.Seq.{ext_get_or, get_or-drop}
 use Rattle.slices.specs.Bytes.{Bytes}
 use Rattle.layout.specs.declared.Sizes.{Sizes}
-use Rattle.layout.specs.Sizes.{InRange, kinds, dictionaries, pageBytes, listBytes}
+use Rattle.layout.specs.Sizes.{InRange, kinds, dictionaries, page_bytes, list_bytes}
 use Rattle.layout.proofs.Places.{dict-end, list-bytes}
 use Rattle.bytes_buffer.specs.declared.Spot.{Spot}
-use Rattle.bytes_dictionary.specs.Written.{pagesAfter, listsAfter, HasRoom}
+use Rattle.bytes_dictionary.specs.Written.{pages_after, lists_after, HasRoom}
 use Rattle.bytes_dictionary.proofs.Store.{length-pages, length-lists}
 use Rattle.bytes_dictionary.proofs.Beside.{bytes-beside, pages-beside}
-use Rattle.blocks.specs.Answers.{blockWritten}
+use Rattle.blocks.specs.Answers.{block_written}
 use Rattle.blocks.proofs.Written.{length-written, byte-written}
 use Rattle.memory.specs.Promises.{SameBeyond}
 
@@ -37,26 +37,26 @@ beyond-trans s pages lists pages₁ lists₁ pages₂ lists₂ A B =
     }
 
 pub insert-beyond : (s : Sizes) (pages lists : Bytes) (d n place : ℕ) (spot : Spot) (stamp : ℕ) (key : Bytes)
-    → InRange s → pageBytes s ≤ length pages → listBytes s ≤ length lists → d < dictionaries → n < s.e → place < 2 * s.e → HasRoom s (length key) spot
-    → SameBeyond s pages lists (pagesAfter s pages spot key) (listsAfter s lists d n place spot stamp key)
+    → InRange s → page_bytes s ≤ length pages → list_bytes s ≤ length lists → d < dictionaries → n < s.e → place < 2 * s.e → HasRoom s (length key) spot
+    → SameBeyond s pages lists (pages_after s pages spot key) (lists_after s lists d n place spot stamp key)
 insert-beyond s pages lists d n place spot stamp key r f g dl nl pl h =
     let a = length-pages s pages spot key in
     let b = length-lists s lists d n place spot stamp key in
     record {
       pages-length = a;
       lists_length = b;
-      pages-beyond = drop-same (pageBytes s) _ _ a (pages-beside s pages key spot h);
-      lists-beyond = drop-same (listBytes s) _ _ b
+      pages-beyond = drop-same (page_bytes s) _ _ a (pages-beside s pages key spot h);
+      lists-beyond = drop-same (list_bytes s) _ _ b
           (λ i l. bytes-beside s lists d n place stamp key r g dl nl pl spot h i (omega (arith, list-bytes s, dict-end s)));
     }
 
-pub block-beyond : (s : Sizes) (pages lists : Bytes) (k n g : ℕ) → InRange s → listBytes s ≤ length lists → k < kinds → n / 2 ^ s.w < s.b → g < s.b
-    → SameBeyond s pages lists pages (blockWritten s lists k n g)
+pub block-beyond : (s : Sizes) (pages lists : Bytes) (k n g : ℕ) → InRange s → list_bytes s ≤ length lists → k < kinds → n / 2 ^ s.w < s.b → g < s.b
+    → SameBeyond s pages lists pages (block_written s lists k n g)
 block-beyond s pages lists k n g r f h l e =
     let a = length-written s lists k n g in
     record {
       pages-length = refl;
       lists_length = a;
       pages-beyond = refl;
-      lists-beyond = drop-same (listBytes s) _ _ a (λ i o. byte-written s lists k n g h l e i (inr o));
+      lists-beyond = drop-same (list_bytes s) _ _ a (λ i o. byte-written s lists k n g h l e i (inr o));
     }

@@ -7,7 +7,7 @@ use Rattle.refusals.specs.declared.Refusal.TheVariants.{Unopened}
 use Rattle.layout.specs.declared.Sizes.{Sizes}
 use Rattle.model.specs.Answers.{OpenAnswer}
 use Rattle.model.specs.State.{State, opened}
-use Rattle.model.specs.Calls.{Event, add, find, read, count, effects, Before, nothing, beforeOf, freshNames, Demand3}
+use Rattle.model.specs.Calls.{Event, add, find, read, count, effects, Before, nothing, before_of, fresh_names, Demand3}
 use Rattle.model.specs.Runs.{RefusedFor, Step, Runs}
 use Rattle.model.specs.Order.{ordered}
 use Rattle.model.proofs.Never.{never-unopened}
@@ -53,12 +53,12 @@ never-3 s st m z e S b = never-unopened s st e (step s b.0 z e b.2 st (stands_sa
 -- ---- from any memory that stands for a state
 
 -- The state's names count as given before the list.
-pub brought-any : (s : Sizes) (st : State) (m z : Memory) (es : List Event) → Stands s st m.pages m.lists → Brought s m es z → Demand3 (beforeOf s st) es
+pub brought-any : (s : Sizes) (st : State) (m z : Memory) (es : List Event) → Stands s st m.pages m.lists → Brought s m es z → Demand3 (before_of s st) es
 brought-any s st m z es S b = lists-from Memory s (StandsIn s) m z es (runs s m z es b) st S.good S
 
 pub brought-any-after : (s : Sizes) (st : State) (m z : Memory) (es : List Event) → Stands s st m.pages m.lists → Brought s m es z
-    → Demand3After s (beforeOf s st) es z
-brought-any-after s st m z es S b = after_list s (beforeOf s st) es z (λ e z' c. brought-any s st m z' (e ∷ es) S (z, b, c))
+    → Demand3After s (before_of s st) es z
+brought-any-after s st m z es S b = after_list s (before_of s st) es z (λ e z' c. brought-any s st m z' (e ∷ es) S (z, b, c))
 
 -- ---- from open
 
@@ -81,7 +81,7 @@ module _ (s : Sizes) (pages lists pages₁ lists₁ : Bytes) (O : OpenPost s pag
   brought-demand-3-after = after_list s (nothing s) es z (λ e z' c. brought-opened s begin z' (e ∷ es) fresh (z, b, c))
 
   -- The memory after the list stands for all fresh names in the order of their adds, across the kinds.
-  pub brought-stands-for : (st : State) × Stands s st z.pages z.lists × (ordered st ≡ freshNames [] (effects es))
+  pub brought-stands-for : (st : State) × Stands s st z.pages z.lists × (ordered st ≡ fresh_names [] (effects es))
   brought-stands-for =
       let k = opened-stands-for Memory s (StandsIn s) begin z es (runs s begin z es b) fresh.good.sizes fresh in
       (k.0, k.1, k.3)

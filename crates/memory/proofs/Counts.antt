@@ -9,48 +9,48 @@ use native.Mathlib.Decide.{ℕ_discrete, dec_lt}
 use borrow.Author.Tests.{eq-eqb, ne_eqb}
 use lib.ListN.{length}
 use Rattle.slices.specs.Bytes.{Bytes}
-use Rattle.words.specs.Words.{wordAt}
+use Rattle.words.specs.Words.{word_at}
 use Rattle.layout.specs.declared.Sizes.{Sizes}
 use Rattle.layout.specs.Sizes.{kinds, dictionaries}
-use Rattle.layout.specs.Fields.{untakenAt, countAt}
+use Rattle.layout.specs.Fields.{untaken_at, count_at}
 use Rattle.header.specs.declared.Header.TheVariants.{Opened}
-use Rattle.header.specs.Header.{headerOf}
+use Rattle.header.specs.Header.{header_of}
 use Rattle.bytes_index.specs.Entries as Index
 use Rattle.bytes_buffer.specs.declared.Spot.TheVariants.{Bad}
 use Rattle.bytes_buffer.specs.declared.Lowest.TheVariants.{Page}
-use Rattle.bytes_buffer.specs.Pages.{Space, sum, allPages}
-use Rattle.bytes_buffer.specs.Spots.{lowestOf, spotIn}
+use Rattle.bytes_buffer.specs.Pages.{Space, sum, all_pages}
+use Rattle.bytes_buffer.specs.Spots.{lowest_of, spot_in}
 use Rattle.bytes_buffer.proofs.Pages.{sum_same, sum-most}
 use Rattle.bytes_buffer.proofs.Plans.{untaken-known, plan-says}
 use Rattle.bytes_dictionary.specs.declared.Counted.TheVariants.{Entries}
-use Rattle.bytes_dictionary.specs.Reading.{countIn}
+use Rattle.bytes_dictionary.specs.Reading.{count_in}
 use Rattle.bytes_dictionary.specs.Store.{DictAt}
 use Rattle.bytes_dictionary.proofs.Header.{store-passes}
 use Rattle.bytes_dictionary.proofs.Looked.{store-counted}
 use Rattle.model.specs.Kinds.{row}
-use Rattle.model.specs.State.{State, stampOf}
+use Rattle.model.specs.State.{State, stamp_of}
 use Rattle.model.specs.Keys.{keys_of}
 use Rattle.model.proofs.Keys.{length-keys}
-use Rattle.memory.specs.Stands.{entryIn, Stands}
+use Rattle.memory.specs.Stands.{entry_in, Stands}
 use Rattle.memory.proofs.Probes.{main-below, head-below}
 
 -- ---- a list's entries are those below its length
 
-pub entry-below : (i : ℕ) (xs : List Bytes) → i < length xs → (key : Bytes) × (entryIn i xs ≡ some key)
+pub entry-below : (i : ℕ) (xs : List Bytes) → i < length xs → (key : Bytes) × (entry_in i xs ≡ some key)
 entry-below i [] h = absurd (omega arith)
 entry-below i (x ∷ xs) h = go (ℕ_discrete i (length xs)) (entry-below i xs)
   where
-    go : Dec (i ≡ length xs) → (i < length xs → (key : Bytes) × (entryIn i xs ≡ some key)) → (key : Bytes) × (entryIn i (x ∷ xs) ≡ some key)
+    go : Dec (i ≡ length xs) → (i < length xs → (key : Bytes) × (entry_in i xs ≡ some key)) → (key : Bytes) × (entry_in i (x ∷ xs) ≡ some key)
     go (yes q) ih = (x, rw (eq-eqb i (length xs) q))
     go (no q) ih = let r = ih (omega arith) in (r.0, rw (ne_eqb i (length xs) q) r.1)
 
-pub entry_past : (i : ℕ) (xs : List Bytes) → length xs ≤ i → entryIn i xs ≡ none
+pub entry_past : (i : ℕ) (xs : List Bytes) → length xs ≤ i → entry_in i xs ≡ none
 entry_past i [] h = refl
 entry_past i (x ∷ xs) h = rw (ne_eqb i (length xs) (omega arith)) (entry_past i xs (omega arith))
 
 -- So a dictionary that holds a list's entries counts its length.
 count-length : (s : Sizes) (pages lists : Bytes) (d : ℕ) (es : Index.Entries) (c : ℕ) (t : ℕ → ℕ) (xs : List Bytes) → DictAt s pages lists d es c t
-    → ((i : ℕ) → es i ≡ entryIn i xs) → c ≡ length xs
+    → ((i : ℕ) → es i ≡ entry_in i xs) → c ≡ length xs
 count-length s pages lists d es c t xs D e = go (dec_lt c (length xs)) (dec_lt (length xs) c)
   where
     go : Dec (c < length xs) → Dec (length xs < c) → c ≡ length xs
@@ -68,20 +68,20 @@ module _ {s : Sizes} {st : State} {pages lists : Bytes} (S : Stands s st pages l
   -- ---- the kinds' dictionaries
 
   module _ (k : ℕ) (l : k < kinds) where
-    pub main-count : S.store.count (row k).mainAt ≡ length (st.part k).names
+    pub main-count : S.store.count (row k).main_at ≡ length (st.part k).names
     main-count =
-        count-length s pages lists (row k).mainAt _ _ _ (keys_of (st.part k).heads (st.part k).names) (S.stored.dict (row k).mainAt (main-below k)) (S.parts k l).main
+        count-length s pages lists (row k).main_at _ _ _ (keys_of (st.part k).heads (st.part k).names) (S.stored.dict (row k).main_at (main-below k)) (S.parts k l).main
         ∙ length-keys (st.part k).heads (st.part k).names
 
-    pub head-count : (row k).paired ≡ true → S.store.count (row k).headsAt ≡ length (st.part k).heads
+    pub head-count : (row k).paired ≡ true → S.store.count (row k).heads_at ≡ length (st.part k).heads
     head-count p =
-        count-length s pages lists (row k).headsAt _ _ _ (st.part k).heads (S.stored.dict (row k).headsAt (head-below k)) ((S.parts k l).heads p)
+        count-length s pages lists (row k).heads_at _ _ _ (st.part k).heads (S.stored.dict (row k).heads_at (head-below k)) ((S.parts k l).heads p)
 
-    pub main-counted : countIn s (wordAt lists (countAt (row k).mainAt)) ≡ Entries (length (st.part k).names)
-    main-counted = store-counted s S.store pages lists (row k).mainAt (main-below k) S.stored ∙ ap Entries main-count
+    pub main-counted : count_in s (word_at lists (count_at (row k).main_at)) ≡ Entries (length (st.part k).names)
+    main-counted = store-counted s S.store pages lists (row k).main_at (main-below k) S.stored ∙ ap Entries main-count
 
-    pub head-counted : (row k).paired ≡ true → countIn s (wordAt lists (countAt (row k).headsAt)) ≡ Entries (length (st.part k).heads)
-    head-counted p = store-counted s S.store pages lists (row k).headsAt (head-below k) S.stored ∙ ap Entries (head-count p)
+    pub head-counted : (row k).paired ≡ true → count_in s (word_at lists (count_at (row k).heads_at)) ≡ Entries (length (st.part k).heads)
+    head-counted p = store-counted s S.store pages lists (row k).heads_at (head-below k) S.stored ∙ ap Entries (head-count p)
 
   pub next-count : (k : ℕ) → st.blocks.next k ≡ length (st.part k).names
   next-count k = (S.good.part k).numbered
@@ -91,27 +91,27 @@ module _ {s : Sizes} {st : State} {pages lists : Bytes} (S : Stands s st pages l
   taken-same : (d : ℕ) → d < dictionaries → (S.store.space d).taken ≡ (st.space d).taken
   taken-same d l = ap (λ (x : Space). x.taken) (S.spaces d l)
 
-  pub pages-same : allPages S.store.space ≡ allPages st.space
-  unfolding allPages
+  pub pages-same : all_pages S.store.space ≡ all_pages st.space
+  unfolding all_pages
   pages-same = sum_same _ _ dictionaries taken-same
 
-  pub untaken-is : wordAt lists untakenAt ≡ allPages st.space
+  pub untaken-is : word_at lists untaken_at ≡ all_pages st.space
   untaken-is = S.stored.paged.lowest ∙ pages-same
 
-  pub lowest-is-known : lowestOf s (wordAt lists untakenAt) ≡ Page (allPages st.space)
-  lowest-is-known = untaken-known s S.store.space (wordAt lists) S.stored.paged ∙ ap Page pages-same
+  pub lowest-is-known : lowest_of s (word_at lists untaken_at) ≡ Page (all_pages st.space)
+  lowest-is-known = untaken-known s S.store.space (word_at lists) S.stored.paged ∙ ap Page pages-same
 
-  pub header_is : headerOf (length pages) lists ≡ Opened s
+  pub header_is : header_of (length pages) lists ≡ Opened s
   header_is = store-passes s S.store pages lists S.stored
 
-  pub spot_known : (d u n : ℕ) → d < dictionaries → spotIn s (wordAt lists) d u n ≡ Bad → ⊥
-  spot_known d u n l e = plan-says s S.store.space (wordAt lists) d u n S.stored.paged l Bad e
+  pub spot_known : (d u n : ℕ) → d < dictionaries → spot_in s (word_at lists) d u n ≡ Bad → ⊥
+  spot_known d u n l e = plan-says s S.store.space (word_at lists) d u n S.stored.paged l Bad e
 
   -- ---- the next stamp
 
   -- Every name used a local number up.
-  pub stamp-is : stampOf st.blocks ≡ sum (λ k. length (st.part k).names) kinds
+  pub stamp-is : stamp_of st.blocks ≡ sum (λ k. length (st.part k).names) kinds
   stamp-is = sum_same _ _ kinds (λ k l. next-count k)
 
-  pub stamp-small : stampOf st.blocks < 2 ^ 64
-  stamp-small = omega (arith, stamp-is, S.good.sizes.e, sum-most (λ k. length (st.part k).names) s.e kinds (λ k l. (S.good.part k).fewNames))
+  pub stamp-small : stamp_of st.blocks < 2 ^ 64
+  stamp-small = omega (arith, stamp-is, S.good.sizes.e, sum-most (λ k. length (st.part k).names) s.e kinds (λ k l. (S.good.part k).few_names))

@@ -5,7 +5,7 @@ use Rattle.slices.specs.Bytes.{Bytes}
 use Rattle.layout.specs.declared.Sizes.{Sizes}
 use Rattle.model.specs.Answers.{OpenAnswer}
 use Rattle.model.specs.State.{State}
-use Rattle.model.specs.Calls.{Event, effects, nothing, beforeOf, freshNames, Demand3}
+use Rattle.model.specs.Calls.{Event, effects, nothing, before_of, fresh_names, Demand3}
 use Rattle.model.specs.Order.{ordered}
 use Rattle.memory.specs.Stands.{Stands}
 use Rattle.memory.specs.Promises.{OpenPost}
@@ -25,11 +25,11 @@ module _ {E : Type 0} (One : Memory → E → Memory → Type 0) (s : Sizes) whe
 -- ---- from any memory that stands for a state
 
 -- The state's names count as given before the list.
-pub from-any : (s : Sizes) (st : State) (m z : Memory) (es : List Event) → Stands s st m.pages m.lists → Calls m es z → Demand3 (beforeOf s st) es
+pub from-any : (s : Sizes) (st : State) (m z : Memory) (es : List Event) → Stands s st m.pages m.lists → Calls m es z → Demand3 (before_of s st) es
 from-any s st m z es S c = brought-any s st m z es S (all-as-left Called s m z es c)
 
 pub from-any-after : (s : Sizes) (st : State) (m z : Memory) (es : List Event) → Stands s st m.pages m.lists → Calls m es z
-    → Demand3After s (beforeOf s st) es z
+    → Demand3After s (before_of s st) es z
 from-any-after s st m z es S c = brought-any-after s st m z es S (all-as-left Called s m z es c)
 
 -- ---- from open
@@ -47,5 +47,5 @@ module _ (s : Sizes) (pages lists pages₁ lists₁ : Bytes) (O : OpenPost s pag
   demand-3-after = brought-demand-3-after s pages lists pages₁ lists₁ O es z brought
 
   -- The memory after the list stands for all fresh names in the order of their adds, across the kinds.
-  pub stands-for : (st : State) × Stands s st z.pages z.lists × (ordered st ≡ freshNames [] (effects es))
+  pub stands-for : (st : State) × Stands s st z.pages z.lists × (ordered st ≡ fresh_names [] (effects es))
   stands-for = brought-stands-for s pages lists pages₁ lists₁ O es z brought

@@ -18,33 +18,33 @@ use Rattle.blocks.proofs.Unique.{blocks-unique}
 use Rattle.model.specs.Names.{Name}
 use Rattle.model.specs.Kinds.{row}
 use Rattle.model.specs.State.{Stamped, State, number_of}
-use Rattle.model.specs.Steps.{keyOf}
+use Rattle.model.specs.Steps.{key_of}
 use Rattle.model.specs.Keys.{keys_of}
 use Rattle.model.specs.Good.{NamesOf, Covered}
 use Rattle.model.specs.Order.{ordered}
 use Rattle.model.proofs.Keys.{length-keys, key-same}
 use Rattle.model.proofs.Unique.{unique}
-use Rattle.memory.specs.Stands.{entryIn, stampIn, Stands}
+use Rattle.memory.specs.Stands.{entry_in, stamp_in, Stands}
 use Rattle.memory.proofs.Probes.{main-below, head-below}
 
 -- ---- lists known by their numbers
 
-entry_past : (xs : List Bytes) (i : ℕ) → length xs ≤ i → entryIn i xs ≡ none
+entry_past : (xs : List Bytes) (i : ℕ) → length xs ≤ i → entry_in i xs ≡ none
 entry_past [] i h = refl
 entry_past (x ∷ xs) i h = rw (ne_eqb i (length xs) (λ e. omega arith)) (entry_past xs i (omega arith))
 
-stamp-past : (xs : List Stamped) (i : ℕ) → length xs ≤ i → stampIn i xs ≡ 0
+stamp-past : (xs : List Stamped) (i : ℕ) → length xs ≤ i → stamp_in i xs ≡ 0
 stamp-past [] i h = refl
 stamp-past (x ∷ xs) i h = rw (ne_eqb i (length xs) (λ e. omega arith)) (stamp-past xs i (omega arith))
 
-entry-newest : (x : Bytes) (xs : List Bytes) → entryIn (length xs) (x ∷ xs) ≡ some x
+entry-newest : (x : Bytes) (xs : List Bytes) → entry_in (length xs) (x ∷ xs) ≡ some x
 entry-newest x xs = rw (eq-eqb (length xs) (length xs) refl)
 
-stamp-newest : (x : Stamped) (xs : List Stamped) → stampIn (length xs) (x ∷ xs) ≡ x.stamp
+stamp-newest : (x : Stamped) (xs : List Stamped) → stamp_in (length xs) (x ∷ xs) ≡ x.stamp
 stamp-newest x xs = rw (eq-eqb (length xs) (length xs) refl)
 
 -- Neither of two lists with the same entries is shorter.
-not-shorter : (xs ys : List Bytes) → ((i : ℕ) → entryIn i xs ≡ entryIn i ys) → length ys ≤ length xs
+not-shorter : (xs ys : List Bytes) → ((i : ℕ) → entry_in i xs ≡ entry_in i ys) → length ys ≤ length xs
 not-shorter xs [] same = omega arith
 not-shorter xs (y ∷ ys) same = go (dec_lt (length ys) (length xs))
   where
@@ -54,15 +54,15 @@ not-shorter xs (y ∷ ys) same = go (dec_lt (length ys) (length xs))
         let e : none ≡ some y = sym (entry_past xs (length ys) (omega arith)) ∙ same (length ys) ∙ entry-newest y ys in
         let z : ◌≡◌ {A = ℕ} 0 1 = cc in absurd (omega arith)
 
-same_length : (xs ys : List Bytes) → ((i : ℕ) → entryIn i xs ≡ entryIn i ys) → length xs ≡ length ys
+same_length : (xs ys : List Bytes) → ((i : ℕ) → entry_in i xs ≡ entry_in i ys) → length xs ≡ length ys
 same_length xs ys same = omega (arith, not-shorter xs ys same, not-shorter ys xs (λ i. sym (same i)))
 
-entries-one : (xs ys : List Bytes) → ((i : ℕ) → entryIn i xs ≡ entryIn i ys) → xs ≡ ys
+entries-one : (xs ys : List Bytes) → ((i : ℕ) → entry_in i xs ≡ entry_in i ys) → xs ≡ ys
 entries-one [] [] same = refl
 entries-one [] (y ∷ ys) same = absurd (omega (arith, same_length [] (y ∷ ys) same))
 entries-one (x ∷ xs) [] same = absurd (omega (arith, same_length (x ∷ xs) [] same))
 entries-one (x ∷ xs) (y ∷ ys) same =
-    let newest : some x ≡ some y = sym (entry-newest x xs) ∙ same (length xs) ∙ ap (λ (i : ℕ). entryIn i (y ∷ ys)) long ∙ entry-newest y ys in
+    let newest : some x ≡ some y = sym (entry-newest x xs) ∙ same (length xs) ∙ ap (λ (i : ℕ). entry_in i (y ∷ ys)) long ∙ entry-newest y ys in
     let first : x ≡ y = cc in
     let rest : xs ≡ ys = entries-one xs ys (λ i. older i (ℕ_discrete i (length xs))) in
     λ i. first i ∷ rest i
@@ -70,7 +70,7 @@ entries-one (x ∷ xs) (y ∷ ys) same =
     long : length xs ≡ length ys
     long = let l : length (x ∷ xs) ≡ length (y ∷ ys) = same_length (x ∷ xs) (y ∷ ys) same in omega arith
 
-    older : (i : ℕ) → Dec (i ≡ length xs) → entryIn i xs ≡ entryIn i ys
+    older : (i : ℕ) → Dec (i ≡ length xs) → entry_in i xs ≡ entry_in i ys
     older i (yes e) = entry_past xs i (omega arith) ∙ sym (entry_past ys i (omega (arith, long)))
     older i (no q) = rw (ne_eqb i (length xs) q, ne_eqb i (length ys) (λ e. q (e ∙ sym long))) at (same i)
 
@@ -78,15 +78,15 @@ entries-one (x ∷ xs) (y ∷ ys) same =
 module _ (s : Sizes) (R : InRange s) (hs : List Bytes) (few : length hs ≤ s.e) (k : ℕ) where
   names-one : (t u : ℕ) (xs ys : List Stamped) → NamesOf s k t xs → NamesOf s k u ys
       → ((row k).paired ≡ true → Covered hs xs) → ((row k).paired ≡ true → Covered hs ys)
-      → keys_of hs xs ≡ keys_of hs ys → ((i : ℕ) → stampIn i xs ≡ stampIn i ys) → xs ≡ ys
+      → keys_of hs xs ≡ keys_of hs ys → ((i : ℕ) → stamp_in i xs ≡ stamp_in i ys) → xs ≡ ys
   names-one t u [] [] o p c d keys same = refl
   names-one t u [] (y ∷ ys) o p c d keys same = let z : ◌≡◌ {A = ℕ} 0 1 = cc in absurd (omega arith)
   names-one t u (x ∷ xs) [] o p c d keys same = let z : ◌≡◌ {A = ℕ} 0 1 = cc in absurd (omega arith)
   names-one t u (x ∷ xs) (y ∷ ys) o p c d keys same =
-      let key : keyOf hs x.name ≡ keyOf hs y.name = cc in
+      let key : key_of hs x.name ≡ key_of hs y.name = cc in
       let name : x.name ≡ y.name =
       key-same s R hs few x.name y.name o.0 p.0 (o.1 ∙ sym p.1) (λ v. (c (rw o.1 at v)).0) (λ v. (d (rw p.1 at v)).0) key in
-      let stamp : x.stamp ≡ y.stamp = sym (stamp-newest x xs) ∙ same (length xs) ∙ ap (λ (i : ℕ). stampIn i (y ∷ ys)) long ∙ stamp-newest y ys in
+      let stamp : x.stamp ≡ y.stamp = sym (stamp-newest x xs) ∙ same (length xs) ∙ ap (λ (i : ℕ). stamp_in i (y ∷ ys)) long ∙ stamp-newest y ys in
       let rest : xs ≡ ys =
       names-one x.stamp y.stamp xs ys o.4 p.4 (λ v. (c v).1) (λ v. (d v).1) older-keys (λ i. older i (ℕ_discrete i (length xs))) in
       λ i. record { name = name i; stamp = stamp i } ∷ rest i
@@ -97,7 +97,7 @@ module _ (s : Sizes) (R : InRange s) (hs : List Bytes) (few : length hs ≤ s.e)
       long : length xs ≡ length ys
       long = sym (length-keys hs xs) ∙ ap length older-keys ∙ length-keys hs ys
 
-      older : (i : ℕ) → Dec (i ≡ length xs) → stampIn i xs ≡ stampIn i ys
+      older : (i : ℕ) → Dec (i ≡ length xs) → stamp_in i xs ≡ stamp_in i ys
       older i (yes e) = stamp-past xs i (omega arith) ∙ sym (stamp-past ys i (omega (arith, long)))
       older i (no q) = rw (ne_eqb i (length xs) q, ne_eqb i (length ys) (λ e. q (e ∙ sym long))) at (same i)
 
@@ -113,22 +113,22 @@ module _ (s : Sizes) (x y : State) (pages lists : Bytes) (S : Stands s x pages l
       where
         go : Split (row k).paired → (x.part k).heads ≡ (y.part k).heads
         go (inl p) = entries-one (x.part k).heads (y.part k).heads
-            (λ i. sym ((S.parts k h).heads p i) ∙ (stores (row k).headsAt (head-below k)).entries i ∙ (T.parts k h).heads p i)
+            (λ i. sym ((S.parts k h).heads p i) ∙ (stores (row k).heads_at (head-below k)).entries i ∙ (T.parts k h).heads p i)
         go (inr p) = (S.good.part k).headless p ∙ sym ((T.good.part k).headless p)
 
     keys : keys_of (x.part k).heads (x.part k).names ≡ keys_of (x.part k).heads (y.part k).names
     keys =
         entries-one (keys_of (x.part k).heads (x.part k).names) (keys_of (y.part k).heads (y.part k).names)
-        (λ i. sym ((S.parts k h).main i) ∙ (stores (row k).mainAt (main-below k)).entries i ∙ (T.parts k h).main i)
+        (λ i. sym ((S.parts k h).main i) ∙ (stores (row k).main_at (main-below k)).entries i ∙ (T.parts k h).main i)
         ∙ ap (λ (hs : List Bytes). keys_of hs (y.part k).names) (sym heads)
 
     names : (x.part k).names ≡ (y.part k).names
     names =
-        names-one s S.good.sizes (x.part k).heads (S.good.part k).fewHeads k _ _ (x.part k).names (y.part k).names
+        names-one s S.good.sizes (x.part k).heads (S.good.part k).few_heads k _ _ (x.part k).names (y.part k).names
         (S.good.part k).names (T.good.part k).names
         (S.good.part k).covered (λ p. subst (λ (hs : List Bytes). Covered hs (y.part k).names) (sym heads) ((T.good.part k).covered p))
         keys
-        (λ i. sym ((S.parts k h).stamps i) ∙ (stores (row k).mainAt (main-below k)).stamp i ∙ (T.parts k h).stamps i)
+        (λ i. sym ((S.parts k h).stamps i) ∙ (stores (row k).main_at (main-below k)).stamp i ∙ (T.parts k h).stamps i)
 
     part : x.part k ≡ y.part k
     part = λ i. record { names = names i; heads = heads i }

@@ -7,7 +7,7 @@ use lib.Seq.{get_or-take}
 use Rattle.slices.specs.Bytes.{Bytes}
 use Rattle.words.proofs.Laws.{word-agree}
 use Rattle.layout.specs.declared.Sizes.{Sizes}
-use Rattle.layout.specs.Sizes.{listBytes}
+use Rattle.layout.specs.Sizes.{list_bytes}
 use Rattle.layout.proofs.Places.{dict-end, list-bytes}
 use Rattle.bytes_dictionary.proofs.Agree.{store-agree}
 use Rattle.blocks.proofs.Tables.{kept-blocks, block-fits}
@@ -39,11 +39,11 @@ stands_same s st m m' E S =
           (long_same _ m'.lists m.lists E.lists-same S.stored.header.lists-fit)
           S.stored;
       blocked = kept-blocks s st.blocks m.lists m'.lists
-          (λ i h. word-agree m'.lists m.lists i (λ k l. in-lists (8 * i + k) (omega (arith, block-fits s i (listBytes s) (omega arith) h))))
+          (λ i h. word-agree m'.lists m.lists i (λ k l. in-lists (8 * i + k) (omega (arith, block-fits s i (list_bytes s) (omega arith) h))))
           S.blocked;
       parts = S.parts;
       spaces = S.spaces;
     }
   where
-    in-lists : (i : ℕ) → i < listBytes s → get_or m'.lists i 0 ≡ get_or m.lists i 0
+    in-lists : (i : ℕ) → i < list_bytes s → get_or m'.lists i 0 ≡ get_or m.lists i 0
     in-lists i l = byte-same _ m'.lists m.lists E.lists-same i l

@@ -3,10 +3,10 @@
 use Rattle.std.specs.Prelude.{ℕ, ◌+◌, ◌≤◌, ◌<◌, ◌≡◌, List, [], ◌∷◌, ◌++◌, length, take, drop}
 use Rattle.slices.specs.Bytes.{Bytes}
 use Rattle.layout.specs.declared.Sizes.{Sizes}
-use Rattle.layout.specs.Sizes.{kinds, pageBytes, listBytes}
+use Rattle.layout.specs.Sizes.{kinds, page_bytes, list_bytes}
 use Rattle.model.specs.Names.{Name}
 use Rattle.model.specs.Answers.{ReadAnswer, CountAnswer}
-use Rattle.model.specs.Calls.{Event, add, find, read, count, effects, Before, Issued, freshKinds, howMany}
+use Rattle.model.specs.Calls.{Event, add, find, read, count, effects, Before, Issued, fresh_kinds, how_many}
 use Rattle.memory.specs.Promises.{AddPost, FindPost, ReadPost, CountPost}
 
 -- Both slices in full.
@@ -23,8 +23,8 @@ InTurn One m (e ∷ es) z = (y : Memory) × InTurn One m es y × One y e z
 
 -- The bytes that the sizes need are the same. The slices may be longer or shorter. If those of m are long enough, those of m' are too.
 pub record SameDictionary (s : Sizes) (m m' : Memory) : Type 0 where
-  pub pages-same : take (pageBytes s) m'.pages ≡ take (pageBytes s) m.pages
-  pub lists-same : take (listBytes s) m'.lists ≡ take (listBytes s) m.lists
+  pub pages-same : take (page_bytes s) m'.pages ≡ take (page_bytes s) m.pages
+  pub lists-same : take (list_bytes s) m'.lists ≡ take (list_bytes s) m.lists
 
 -- One call after m that brings slices with the same dictionary, and leaves z.
 abbrev pub Bringing : {E : Type 0} → (Memory → E → Memory → Type 0) → Sizes → Memory → E → Memory → Type 0
@@ -54,7 +54,7 @@ Brought s m es z = InTurn (Brings s) m es z
 -- Demand 3's sentences on a count and a read after the list. Its calls were es, o was there before them, and they left z.
 pub record Demand3After (s : Sizes) (o : Before) (es : List Event) (z : Memory) : Type 0 where
   -- A count of a kind gives how many adds of the kind had said fresh by then.
-  pub counts : (k : ℕ) (r : CountAnswer) (z' : Memory) → Brings s z (count k r) z' → k < kinds → r ≡ CountAnswer.count (howMany (o.count k) k (freshKinds (effects es)))
+  pub counts : (k : ℕ) (r : CountAnswer) (z' : Memory) → Brings s z (count k r) z' → k < kinds → r ≡ CountAnswer.count (how_many (o.count k) k (fresh_kinds (effects es)))
   -- A read gives exactly its name for each number issued by then, if the buffer is long enough,
   pub read_name : (n : ℕ) (x y : Bytes) (r : ReadAnswer) (a : Name) (z' : Memory) → Brings s z (read n x r y) z'
       → Issued o a n (effects es) → length a.first + length a.second ≤ length x

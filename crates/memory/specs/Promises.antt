@@ -7,26 +7,26 @@ use Rattle.slices.specs.Bytes.{Bytes}
 use Rattle.slices.specs.Ranges.{within}
 use Rattle.refusals.specs.declared.Refusal.{Refusal}
 use Rattle.refusals.specs.declared.Refusal.TheVariants.{Unopened, BadKind, ShortBuffer}
-use Rattle.refusals.specs.Numbers.{refusalNumber}
+use Rattle.refusals.specs.Numbers.{refusal_number}
 use Rattle.layout.specs.declared.Sizes.{Sizes}
-use Rattle.layout.specs.Sizes.{kinds, pageBytes, listBytes}
-use Rattle.header.specs.Header.{sizesIn, AlwaysUnopened}
+use Rattle.layout.specs.Sizes.{kinds, page_bytes, list_bytes}
+use Rattle.header.specs.Header.{sizes_in, AlwaysUnopened}
 use Rattle.model.specs.Names.{Name}
 use Rattle.model.specs.Answers.{OpenAnswer, AddAnswer, FindAnswer, ReadAnswer, CountAnswer}
 use Rattle.model.specs.State.{State, opened}
-use Rattle.model.specs.Steps.{openAnswer, checks, addAnswer, afterAdd, findAnswer, readAnswer, readBuffer, countAnswer}
+use Rattle.model.specs.Steps.{open_answer, checks, add_answer, after_add, find_answer, read_answer, read_buffer, count_answer}
 use Rattle.memory.specs.Stands.{Stands}
 
 -- The slices keep their lengths, and the bytes past what the sizes need stay as found.
 pub record SameBeyond (s : Sizes) (pages lists pages' lists' : Bytes) : Type 0 where
   pub pages-length : length pages' ≡ length pages
   pub lists_length : length lists' ≡ length lists
-  pub pages-beyond : drop (pageBytes s) pages' ≡ drop (pageBytes s) pages
-  pub lists-beyond : drop (listBytes s) lists' ≡ drop (listBytes s) lists
+  pub pages-beyond : drop (page_bytes s) pages' ≡ drop (page_bytes s) pages
+  pub lists-beyond : drop (list_bytes s) lists' ≡ drop (list_bytes s) lists
 
 -- A refusal whose number is from lo to hi.
 abbrev pub NumberWithin : ℕ → ℕ → Refusal → Type 0
-NumberWithin lo hi why = within lo hi (refusalNumber why) ≡ true
+NumberWithin lo hi why = within lo hi (refusal_number why) ≡ true
 
 -- A number in one of the blocks that the sizes have.
 abbrev pub InBlocks : Sizes → ℕ → Type 0
@@ -35,7 +35,7 @@ InBlocks s n = n / 2 ^ s.w < s.b
 -- ---- open
 
 pub record OpenPost (s : Sizes) (pages lists : Bytes) (r : OpenAnswer) (pages' lists' : Bytes) : Type 0 where
-  pub answer : r ≡ openAnswer s (length pages) (length lists)
+  pub answer : r ≡ open_answer s (length pages) (length lists)
   pub pages-kept : pages' ≡ pages
   pub kept : (why : Refusal) → r ≡ OpenAnswer.refused why → lists' ≡ lists
   pub beyond : SameBeyond s pages lists pages' lists'
@@ -53,13 +53,13 @@ AddBounded s (AddAnswer.known n) = InBlocks s n
 pub record AddPost (pages lists : Bytes) (a : Name) (r : AddAnswer) (pages' lists' : Bytes) : Type 0 where
   pub unopened : AlwaysUnopened pages lists → r ≡ AddAnswer.refused Unopened
   -- On any memory an illegal name gets its own refusal, or 3;
-  pub illegal : (why : Refusal) → checks (sizesIn lists) a ≡ some why → (r ≡ AddAnswer.refused Unopened) ⊎ (r ≡ AddAnswer.refused why)
+  pub illegal : (why : Refusal) → checks (sizes_in lists) a ≡ some why → (r ≡ AddAnswer.refused Unopened) ⊎ (r ≡ AddAnswer.refused why)
   -- and a legal one a bounded answer.
-  pub bounded : checks (sizesIn lists) a ≡ none → AddBounded (sizesIn lists) r
+  pub bounded : checks (sizes_in lists) a ≡ none → AddBounded (sizes_in lists) r
   -- Only a fresh name is written.
   pub kept : ((n : ℕ) → ¬ (r ≡ AddAnswer.fresh n)) → (pages' ≡ pages) × (lists' ≡ lists)
-  pub beyond : SameBeyond (sizesIn lists) pages lists pages' lists'
-  pub whole : (s : Sizes) (st : State) → Stands s st pages lists → (r ≡ addAnswer s st a) × Stands s (afterAdd s st a) pages' lists'
+  pub beyond : SameBeyond (sizes_in lists) pages lists pages' lists'
+  pub whole : (s : Sizes) (st : State) → Stands s st pages lists → (r ≡ add_answer s st a) × Stands s (after_add s st a) pages' lists'
 
 -- ---- find
 
@@ -70,10 +70,10 @@ FindBounded s FindAnswer.absent = Unit {0}
 
 pub record FindPost (pages lists : Bytes) (a : Name) (r : FindAnswer) (pages' lists' : Bytes) : Type 0 where
   pub unopened : AlwaysUnopened pages lists → r ≡ FindAnswer.refused Unopened
-  pub illegal : (why : Refusal) → checks (sizesIn lists) a ≡ some why → (r ≡ FindAnswer.refused Unopened) ⊎ (r ≡ FindAnswer.refused why)
-  pub bounded : checks (sizesIn lists) a ≡ none → FindBounded (sizesIn lists) r
+  pub illegal : (why : Refusal) → checks (sizes_in lists) a ≡ some why → (r ≡ FindAnswer.refused Unopened) ⊎ (r ≡ FindAnswer.refused why)
+  pub bounded : checks (sizes_in lists) a ≡ none → FindBounded (sizes_in lists) r
   pub kept : (pages' ≡ pages) × (lists' ≡ lists)
-  pub whole : (s : Sizes) (st : State) → Stands s st pages lists → r ≡ findAnswer s st a
+  pub whole : (s : Sizes) (st : State) → Stands s st pages lists → r ≡ find_answer s st a
 
 -- ---- read
 
@@ -91,7 +91,7 @@ pub record ReadPost (pages lists : Bytes) (number : ℕ) (x : Bytes) (r : ReadAn
   pub buffer-length : length y ≡ length x
   -- Only a name is written into the buffer.
   pub buffer-kept : ((k m n : ℕ) → ¬ (r ≡ ReadAnswer.name k m n)) → y ≡ x
-  pub whole : (s : Sizes) (st : State) → Stands s st pages lists → (r ≡ readAnswer s st number x) × (y ≡ readBuffer s st number x)
+  pub whole : (s : Sizes) (st : State) → Stands s st pages lists → (r ≡ read_answer s st number x) × (y ≡ read_buffer s st number x)
 
 -- ---- count
 
@@ -102,6 +102,6 @@ CountBounded s (CountAnswer.count n) = n ≤ s.e
 pub record CountPost (pages lists : Bytes) (kind : ℕ) (r : CountAnswer) (pages' lists' : Bytes) : Type 0 where
   pub unopened : AlwaysUnopened pages lists → r ≡ CountAnswer.refused Unopened
   pub illegal : kinds ≤ kind → (r ≡ CountAnswer.refused Unopened) ⊎ (r ≡ CountAnswer.refused BadKind)
-  pub bounded : kind < kinds → CountBounded (sizesIn lists) r
+  pub bounded : kind < kinds → CountBounded (sizes_in lists) r
   pub kept : (pages' ≡ pages) × (lists' ≡ lists)
-  pub whole : (s : Sizes) (st : State) → Stands s st pages lists → r ≡ countAnswer st kind
+  pub whole : (s : Sizes) (st : State) → Stands s st pages lists → r ≡ count_answer st kind

@@ -2,20 +2,20 @@
 use Prim.Native.Nat.{ℕ, zero, suc, ◌+◌, ◌-◌, ◌*◌, ◌/◌, ◌%◌, ◌^◌, ◌<◌, ◌≤◌}
 use mathlib.Core.Path.{◌≡◌, refl, sym, ap, ◌∙◌}
 use mathlib.Core.Logic.{◌≢◌}
-use native.Mathlib.Nat.{mod-lt, mul-le-mul}
+use native.Mathlib.Nat.{mod-lt}
 use native.Mathlib.Omega.{arith}
 use lib.Pow as Pow
 use Rattle.slices.specs.Bytes.{Bytes}
-use Rattle.words.specs.Words.{wordAt}
+use Rattle.words.specs.Words.{word_at}
 use Rattle.layout.specs.declared.Sizes.{Sizes}
 use Rattle.layout.specs.Sizes.{kinds}
-use Rattle.layout.specs.Fields.{local_at, globalAt}
+use Rattle.layout.specs.Fields.{local_at, global_at}
 use Rattle.blocks.specs.declared.Held.TheVariants as H
 use Rattle.blocks.specs.Blocks.{held, Blocks}
-use Rattle.blocks.specs.Tables.{wordOwner, ownerIn, BlocksAt}
-use Rattle.blocks.specs.Answers.{heldBy}
+use Rattle.blocks.specs.Tables.{word_owner, owner_in, BlocksAt}
+use Rattle.blocks.specs.Answers.{held_by}
 use Rattle.blocks.proofs.Pigeons.{begun-below}
-use Rattle.blocks.proofs.Tables.{owner-in, owner-past}
+use Rattle.blocks.proofs.Tables.{owner-in}
 use Rattle.blocks.proofs.Answers.{held_below, begun-held}
 use Rattle.meta_dv_dict.specs.declared.Number.TheVariants as N
 use Rattle.meta_dv_dict.specs.declared.Owner.TheVariants as O
@@ -26,7 +26,7 @@ use Rattle.meta_dv_dict.proofs.Numbers.{in-begun}
 
 module _ (s : Sizes) (lists : Bytes) (k n size : ℕ) (h : k < kinds) (Z : size ≡ 2 ^ s.w) where
   abbrev word : ℕ → ℕ
-  word l = wordAt lists (local_at s k l)
+  word l = word_at lists (local_at s k l)
 
   pub globals-past : s.b ≤ n / size → Globals s lists k n N.Bad
   globals-past f =
@@ -36,9 +36,9 @@ module _ (s : Sizes) (lists : Bytes) (k n size : ℕ) (h : k < kinds) (Z : size 
         right = λ b T e. absurd (omega (arith, begun-below s.w s.b b k (n / 2 ^ s.w) T.sound T.below (in-begun s.w n _ e)));
       }
 
-  pub globals-bad : heldBy s.b (word (n / size)) ≡ H.Bad → Globals s lists k n N.Bad
+  pub globals-bad : held_by s.b (word (n / size)) ≡ H.Bad → Globals s lists k n N.Bad
   globals-bad e =
-      let e' : heldBy s.b (word (n / 2 ^ s.w)) ≡ H.Bad = rw Z at e in
+      let e' : held_by s.b (word (n / 2 ^ s.w)) ≡ H.Bad = rw Z at e in
       record {
         range = tt;
         right = λ b T p.
@@ -47,9 +47,9 @@ module _ (s : Sizes) (lists : Bytes) (k n size : ℕ) (h : k < kinds) (Z : size 
             let z : ◌≡◌ {A = ℕ} 0 1 = cc in absurd (omega arith);
       }
 
-  pub globals-there : (g : ℕ) → heldBy s.b (word (n / size)) ≡ H.In g → Globals s lists k n (N.Global (record { 0 = g * size + n % size }))
+  pub globals-there : (g : ℕ) → held_by s.b (word (n / size)) ≡ H.In g → Globals s lists k n (N.Global (record { 0 = g * size + n % size }))
   globals-there g e =
-      let e' : heldBy s.b (word (n / 2 ^ s.w)) ≡ H.In g = rw Z at e in
+      let e' : held_by s.b (word (n / 2 ^ s.w)) ≡ H.In g = rw Z at e in
       let lt : n % 2 ^ s.w < 2 ^ s.w = mod-lt n (Pow.pow_pos s.w) in
       record {
         range = rw (Z, Pow.high g s.w lt) (held_below s.b (word (n / size)) g e);
@@ -64,25 +64,23 @@ module _ (s : Sizes) (lists : Bytes) (k n size : ℕ) (h : k < kinds) (Z : size 
 
 module _ (s : Sizes) (b : Blocks) (lists : Bytes) (T : BlocksAt s b lists) where
   -- The owner that a block's word names.
-  named : (g x : ℕ) → g < s.b → wordAt lists (globalAt s g) ≡ x → x ≢ 0 → b.owner g ≡ held ((x - 1) % 16) ((x - 1) / 16)
-  unfolding ownerIn
+  named : (g x : ℕ) → g < s.b → word_at lists (global_at s g) ≡ x → x ≢ 0 → b.owner g ≡ held ((x - 1) % 16) ((x - 1) / 16)
+  unfolding owner_in
   named g zero h e d = absurd (d refl)
   named g (suc x) h e d =
       let p : suc x - 1 ≡ x = omega arith in
-      rw p (sym (owner-in s b lists T g h) ∙ ap wordOwner e)
+      rw p (sym (owner-in s b lists T g h) ∙ ap word_owner e)
 
 module _ (s : Sizes) (lists : Bytes) (n size : ℕ) (Z : size ≡ 2 ^ s.w) where
-  }
-
-  module _ (x : ℕ) (f : n / size < s.b) (e : wordAt lists (globalAt s (n / size)) ≡ x) where
+  module _ (x : ℕ) (f : n / size < s.b) (e : word_at lists (global_at s (n / size)) ≡ x) where
     pub locals-free : x ≡ 0 → Locals s lists n O.Free
-    unfolding ownerIn
+    unfolding owner_in
     locals-free z =
         let f' : n / 2 ^ s.w < s.b = rw Z at f in
-        let e' : wordAt lists (globalAt s (n / 2 ^ s.w)) ≡ x = rw Z at e in
+        let e' : word_at lists (global_at s (n / 2 ^ s.w)) ≡ x = rw Z at e in
         record {
           range = tt;
-          right = λ b T. ap (owned_by s.w n) (sym (ap wordOwner (e' ∙ z)) ∙ owner-in s b lists T (n / 2 ^ s.w) f');
+          right = λ b T. ap (owned_by s.w n) (sym (ap word_owner (e' ∙ z)) ∙ owner-in s b lists T (n / 2 ^ s.w) f');
         }
 
     owned : (b : Blocks) → BlocksAt s b lists → x ≢ 0 → b.owner (n / 2 ^ s.w) ≡ held ((x - 1) % 16) ((x - 1) / 16)

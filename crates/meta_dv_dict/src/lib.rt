@@ -3,7 +3,7 @@
 #![tactic(auto)]
 
 ghost use Rattle.std.specs.Prelude.{◌≡◌, ◌+◌, ◌*◌, ◌%◌, ◌^◌, ◌≤◌, ◌<◌, length};
-ghost use Rattle.layout.specs.Sizes.{InRange, kinds, listBytes};
+ghost use Rattle.layout.specs.Sizes.{InRange, kinds, list_bytes};
 ghost use Rattle.meta_dv_dict.specs.Answers.{Globals, Locals};
 
 use blocks::{Held, LocalId};
@@ -34,7 +34,7 @@ pub enum Number {
 
 // The global number of the kind k's local number.
 pub fn local_to_global(lists: &[u8], s: Sizes, k: usize, local: LocalId) -> Number
-    requires { InRange s × (listBytes s ≤ length lists.now) × (k < kinds) }
+    requires { InRange s × (list_bytes s ≤ length lists.now) × (k < kinds) }
     ensures { Globals s lists.now k local.0 result }
 {
     let n = local.0;
@@ -58,7 +58,7 @@ pub enum Owner {
 
 // The kind and the local number of a global number, by its block. The kind's count tells whether a name has it.
 pub fn global_to_local(lists: &[u8], s: Sizes, number: GlobalId) -> Owner
-    requires { InRange s × (listBytes s ≤ length lists.now) }
+    requires { InRange s × (list_bytes s ≤ length lists.now) }
     ensures { Locals s lists.now number.0 result }
 {
     let n = number.0;

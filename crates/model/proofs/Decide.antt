@@ -9,7 +9,7 @@ use Rattle.layout.specs.declared.Sizes.{Sizes}
 use Rattle.blocks.specs.Blocks.{pick}
 use Rattle.model.specs.Names.{Name}
 use Rattle.model.specs.State.{State, number_of}
-use Rattle.model.specs.Steps.{checks, room, refuse, found, enter, decideBlock, decideRoom, decideKnown, decideChecked, decide}
+use Rattle.model.specs.Steps.{checks, room, refuse, found, enter, decide_block, decide_room, decide_known, decide_checked, decide}
 
 -- The name passed every refusal and was not known; g is its block.
 pub record Entering (s : Sizes) (st : State) (a : Name) (g : ℕ) : Type 0 where
@@ -23,20 +23,20 @@ module _ (s : Sizes) (st : State) (a : Name) where
   unfolding decide
   entering g e = go1 (checks s a) refl e
     where
-      go4 : checks s a ≡ none → number_of s st a ≡ none → room s st a ≡ none → (o : Option ℕ) → pick s st.blocks a.kind ≡ o → decideBlock o ≡ enter g
+      go4 : checks s a ≡ none → number_of s st a ≡ none → room s st a ≡ none → (o : Option ℕ) → pick s st.blocks a.kind ≡ o → decide_block o ≡ enter g
           → Entering s st a g
       go4 c n r none p q = let z : ◌≡◌ {A = ℕ} 0 1 = cc in absurd (omega arith)
       go4 c n r (some h) p q = let u : h ≡ g = cc in record { legal = c; new = n; roomy = r; block = rw u at p }
 
-      go3 : checks s a ≡ none → number_of s st a ≡ none → (o : Option Refusal) → room s st a ≡ o → decideRoom s st a o ≡ enter g → Entering s st a g
+      go3 : checks s a ≡ none → number_of s st a ≡ none → (o : Option Refusal) → room s st a ≡ o → decide_room s st a o ≡ enter g → Entering s st a g
       go3 c n (some i) p q = let z : ◌≡◌ {A = ℕ} 0 1 = cc in absurd (omega arith)
       go3 c n none p q = go4 c n p (pick s st.blocks a.kind) refl q
 
-      go2 : checks s a ≡ none → (o : Option ℕ) → number_of s st a ≡ o → decideKnown s st a o ≡ enter g → Entering s st a g
+      go2 : checks s a ≡ none → (o : Option ℕ) → number_of s st a ≡ o → decide_known s st a o ≡ enter g → Entering s st a g
       go2 c (some i) p q = let z : ◌≡◌ {A = ℕ} 0 1 = cc in absurd (omega arith)
       go2 c none p q = go3 c p (room s st a) refl q
 
-      go1 : (o : Option Refusal) → checks s a ≡ o → decideChecked s st a o ≡ enter g → Entering s st a g
+      go1 : (o : Option Refusal) → checks s a ≡ o → decide_checked s st a o ≡ enter g → Entering s st a g
       go1 (some i) p q = let z : ◌≡◌ {A = ℕ} 0 1 = cc in absurd (omega arith)
       go1 none p q = go2 p (number_of s st a) refl q
 
@@ -44,19 +44,19 @@ module _ (s : Sizes) (st : State) (a : Name) where
   unfolding decide
   finding n e = go1 (checks s a) e
     where
-      go4 : (o : Option ℕ) → decideBlock o ≡ found n → number_of s st a ≡ some n
+      go4 : (o : Option ℕ) → decide_block o ≡ found n → number_of s st a ≡ some n
       go4 none q = let z : ◌≡◌ {A = ℕ} 0 1 = cc in absurd (omega arith)
       go4 (some h) q = let z : ◌≡◌ {A = ℕ} 0 1 = cc in absurd (omega arith)
 
-      go3 : (o : Option Refusal) → decideRoom s st a o ≡ found n → number_of s st a ≡ some n
+      go3 : (o : Option Refusal) → decide_room s st a o ≡ found n → number_of s st a ≡ some n
       go3 (some i) q = let z : ◌≡◌ {A = ℕ} 0 1 = cc in absurd (omega arith)
       go3 none q = go4 (pick s st.blocks a.kind) q
 
-      go2 : (o : Option ℕ) → number_of s st a ≡ o → decideKnown s st a o ≡ found n → number_of s st a ≡ some n
+      go2 : (o : Option ℕ) → number_of s st a ≡ o → decide_known s st a o ≡ found n → number_of s st a ≡ some n
       go2 (some i) p q = let u : i ≡ n = cc in rw u at p
       go2 none p q = go3 (room s st a) q
 
-      go1 : (o : Option Refusal) → decideChecked s st a o ≡ found n → number_of s st a ≡ some n
+      go1 : (o : Option Refusal) → decide_checked s st a o ≡ found n → number_of s st a ≡ some n
       go1 (some i) q = let z : ◌≡◌ {A = ℕ} 0 1 = cc in absurd (omega arith)
       go1 none q = go2 (number_of s st a) refl q
 

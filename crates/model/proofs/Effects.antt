@@ -11,12 +11,12 @@ use native.Mathlib.Decide.{ℕ_discrete}
 use lib.ListN.{length}
 use Rattle.slices.proofs.Tests.{Split, split}
 use Rattle.layout.specs.declared.Sizes.{Sizes}
-use Rattle.blocks.specs.Blocks.{Blocks, newest, blocksAfter}
+use Rattle.blocks.specs.Blocks.{Blocks, newest, blocks_after}
 use Rattle.model.specs.Names.{Name, same_name}
 use Rattle.model.specs.State.{State, number_of}
-use Rattle.model.specs.Steps.{Decision, refuse, found, enter, decide, extended, answerBy, stateBy, afterAdd}
+use Rattle.model.specs.Steps.{Decision, refuse, found, enter, decide, extended, answer_by, state_by, after_add}
 use Rattle.model.specs.Good.{Good}
-use Rattle.model.specs.Calls.{Event, add, find, read, count, Effect, fresh, known, no-effect, effect, Before, Given, Issued, freshKinds, howMany}
+use Rattle.model.specs.Calls.{Event, add, find, read, count, Effect, fresh, known, no-effect, effect, Before, Given, Issued, fresh_kinds, how_many}
 use Rattle.model.specs.Runs.{RightAnswer, after_call}
 use Rattle.model.proofs.Names.{name-true, name-same}
 use Rattle.model.proofs.Numbers.{number-new}
@@ -32,7 +32,7 @@ Did s st no-effect z = z ≡ st
 pub did : (s : Sizes) (st : State) (e : Event) → RightAnswer s st e → Did s st (effect e) (after_call s st e)
 did s st (add a r) right = rw right (go (decide s st a) refl)
   where
-    go : (d : Decision) → decide s st a ≡ d → Did s st (effect (add a (answerBy s st a d))) (stateBy s st a d)
+    go : (d : Decision) → decide s st a ≡ d → Did s st (effect (add a (answer_by s st a d))) (state_by s st a d)
     go (refuse why) e = refl
     go (found n) e = (finding s st a n e, refl)
     go (enter g) e = (g, entering s st a g e, refl, refl)
@@ -57,10 +57,10 @@ module _ (s : Sizes) (st : State) (G : Good s st) where
       go (inr p) = rw p h
 
   -- A number stays through every add.
-  pub keeps : (b a : Name) (n : ℕ) → number_of s st a ≡ some n → number_of s (afterAdd s st b) a ≡ some n
+  pub keeps : (b a : Name) (n : ℕ) → number_of s st a ≡ some n → number_of s (after_add s st b) a ≡ some n
   keeps b a n h = go (decide s st b) refl
     where
-      go : (d : Decision) → decide s st b ≡ d → number_of s (stateBy s st b d) a ≡ some n
+      go : (d : Decision) → decide s st b ≡ d → number_of s (state_by s st b d) a ≡ some n
       go (refuse why) e = h
       go (found i) e = h
       go (enter g) e = stays b g (entering s st b g e) a n h
@@ -89,19 +89,19 @@ module _ (s : Sizes) (st : State) (G : Good s st) where
 
 module _ (s : Sizes) (st z : State) (es : List Effect) where
   -- The blocks go by the rule on the kinds of the fresh names.
-  pub blocks-by : (e : Effect) → Did s st e z → (x : Blocks) → st.blocks ≡ blocksAfter s x (freshKinds es) → z.blocks ≡ blocksAfter s x (freshKinds (e ∷ es))
+  pub blocks-by : (e : Effect) → Did s st e z → (x : Blocks) → st.blocks ≡ blocks_after s x (fresh_kinds es) → z.blocks ≡ blocks_after s x (fresh_kinds (e ∷ es))
   unfolding extended
   blocks-by (fresh b m) d x h = rw (d.3, ← h, d.1.block)
   blocks-by (known b m) d x h = rw d.1 h
   blocks-by no-effect d x h = rw d h
 
   -- So do the counts.
-  pub count_by : (e : Effect) → Did s st e z → (k c : ℕ) → length (st.part k).names ≡ howMany c k (freshKinds es)
-      → length (z.part k).names ≡ howMany c k (freshKinds (e ∷ es))
+  pub count_by : (e : Effect) → Did s st e z → (k c : ℕ) → length (st.part k).names ≡ how_many c k (fresh_kinds es)
+      → length (z.part k).names ≡ how_many c k (fresh_kinds (e ∷ es))
   unfolding extended
   count_by (fresh b m) d k c h = rw d.3 (go (ℕ_discrete b.kind k))
     where
-      go : Dec (b.kind ≡ k) → length ((extended s st b d.0).part k).names ≡ howMany c k (b.kind ∷ freshKinds es)
+      go : Dec (b.kind ≡ k) → length ((extended s st b d.0).part k).names ≡ how_many c k (b.kind ∷ fresh_kinds es)
       go (yes p) = rw (eq-eqb b.kind k p, eq-eqb k b.kind (sym p)) (ap (λ (j : ℕ). suc (length (st.part j).names)) p ∙ ap suc h)
       go (no p) = rw (ne_eqb b.kind k p, ne_eqb k b.kind (λ u. p (sym u))) h
   count_by (known b m) d k c h = rw d.1 h

@@ -13,15 +13,15 @@ use Rattle.slices.specs.Updates.{upd}
 use Rattle.slices.proofs.Tests.{passed}
 use Rattle.refusals.specs.declared.Refusal.TheVariants.{ListFull, NoPage}
 use Rattle.layout.specs.declared.Sizes.{Sizes}
-use Rattle.layout.specs.Sizes.{InRange, kinds, dictionaries, pageSize}
-use Rattle.bytes_buffer.specs.Pages.{allPages}
+use Rattle.layout.specs.Sizes.{InRange, kinds, dictionaries, page_size}
+use Rattle.bytes_buffer.specs.Pages.{all_pages}
 use Rattle.bytes_buffer.proofs.Pages.{none-taken, grown-used, grown-taken}
 use Rattle.blocks.specs.Blocks.{Blocks, took}
 use Rattle.blocks.specs.Sound.{Sound, Below, May}
 use Rattle.blocks.proofs.Steps.{picked, step-sound, opened-sound}
 use Rattle.model.specs.Names.{Name}
-use Rattle.model.specs.State.{State, opened, stampOf, localOf, global_of, number_of}
-use Rattle.model.specs.Steps.{nameHead, keyOf, isFull, spaceAfter, room, Decision, refuse, found, enter, decide, partAfter, extended, stateBy, afterAdd}
+use Rattle.model.specs.State.{State, opened, stamp_of, local_of, global_of, number_of}
+use Rattle.model.specs.Steps.{name_head, key_of, is_full, space_after, room, Decision, refuse, found, enter, decide, part_after, extended, state_by, after_add}
 use Rattle.model.specs.Good.{GoodPart, Good}
 use Rattle.model.proofs.Decide.{Entering, entering}
 use Rattle.model.proofs.Legal.{legal-kind}
@@ -35,7 +35,7 @@ opened-good s r = record {
   sizes = r;
   sound = (opened-sound s.w s.b).0;
   below = (opened-sound s.w s.b).1;
-  part = λ k. record { names = tt; numbered = refl; fewNames = omega arith; different = tt; fewHeads = omega arith; covered = λ e. tt; headless = λ e. refl };
+  part = λ k. record { names = tt; numbered = refl; few_names = omega arith; different = tt; few_heads = omega arith; covered = λ e. tt; headless = λ e. refl };
   used = λ d. omega arith;
   taken = omega (arith, none-taken);
   unused = λ k l h. refl;
@@ -53,51 +53,51 @@ module _ (s : Sizes) (st : State) (a : Name) (g : ℕ) (G : Good s st) (e : Ente
   pub may : May s.w st.blocks a.kind g × (g < s.b)
   may = picked s st.blocks a.kind g G.sound G.below e.block
 
-  not_full : (isFull s a (st.part a.kind) ≡ false) × (allPages (spaceAfter s st a) ≤ s.n)
+  not_full : (is_full s a (st.part a.kind) ≡ false) × (all_pages (space_after s st a) ≤ s.n)
   unfolding room
   not_full =
-      let p = passed (isFull s a (st.part a.kind)) ListFull _ e.roomy in
-      let q = passed (ltb s.n (allPages (spaceAfter s st a))) NoPage _ p.1 in
-      (p.0, ltb-false s.n (allPages (spaceAfter s st a)) q.0)
+      let p = passed (is_full s a (st.part a.kind)) ListFull _ e.roomy in
+      let q = passed (ltb s.n (all_pages (space_after s st a))) NoPage _ p.1 in
+      (p.0, ltb-false s.n (all_pages (space_after s st a)) q.0)
 
-  pub stamp-more : stampOf (took s.w st.blocks a.kind g) ≡ suc (stampOf st.blocks)
+  pub stamp-more : stamp_of (took s.w st.blocks a.kind g) ≡ suc (stamp_of st.blocks)
   stamp-more = sum_more st.blocks.next a.kind kinds (legal-kind s a e.legal)
 
-  new-local : localOf a (st.part a.kind).names ≡ none
+  new-local : local_of a (st.part a.kind).names ≡ none
   unfolding number_of
-  new-local = no_local s.w st.blocks a.kind (localOf a (st.part a.kind).names) e.new
+  new-local = no_local s.w st.blocks a.kind (local_of a (st.part a.kind).names) e.new
 
-  part_of : (k : ℕ) → GoodPart s k (stampOf (took s.w st.blocks a.kind g)) ((took s.w st.blocks a.kind g).next k)
-      (upd st.part a.kind (partAfter a (st.part a.kind) (stampOf st.blocks)) k)
+  part_of : (k : ℕ) → GoodPart s k (stamp_of (took s.w st.blocks a.kind g)) ((took s.w st.blocks a.kind g).next k)
+      (upd st.part a.kind (part_after a (st.part a.kind) (stamp_of st.blocks)) k)
   part_of k = rw stamp-more (go (ℕ_discrete a.kind k))
     where
-      go : Dec (a.kind ≡ k) → GoodPart s k (suc (stampOf st.blocks)) ((took s.w st.blocks a.kind g).next k)
-          (upd st.part a.kind (partAfter a (st.part a.kind) (stampOf st.blocks)) k)
+      go : Dec (a.kind ≡ k) → GoodPart s k (suc (stamp_of st.blocks)) ((took s.w st.blocks a.kind g).next k)
+          (upd st.part a.kind (part_after a (st.part a.kind) (stamp_of st.blocks)) k)
       go (yes q) = rw (eq-eqb a.kind k q) (subst
-          (λ (j : ℕ). GoodPart s j (suc (stampOf st.blocks)) (suc (st.blocks.next a.kind)) (partAfter a (st.part a.kind) (stampOf st.blocks))) q
-          (part-good s a (stampOf st.blocks) (st.blocks.next a.kind) (st.part a.kind) (G.part a.kind) e.legal new-local not_full.0))
+          (λ (j : ℕ). GoodPart s j (suc (stamp_of st.blocks)) (suc (st.blocks.next a.kind)) (part_after a (st.part a.kind) (stamp_of st.blocks))) q
+          (part-good s a (stamp_of st.blocks) (st.blocks.next a.kind) (st.part a.kind) (G.part a.kind) e.legal new-local not_full.0))
       go (no q) = rw (ne_eqb a.kind k q) (record {
-        names = later s k (stampOf st.blocks) (suc (stampOf st.blocks)) (st.part k).names (omega arith) (G.part k).names;
+        names = later s k (stamp_of st.blocks) (suc (stamp_of st.blocks)) (st.part k).names (omega arith) (G.part k).names;
         numbered = (G.part k).numbered;
-        fewNames = (G.part k).fewNames;
+        few_names = (G.part k).few_names;
         different = (G.part k).different;
-        fewHeads = (G.part k).fewHeads;
+        few_heads = (G.part k).few_heads;
         covered = (G.part k).covered;
         headless = (G.part k).headless;
       })
 
-  used-of : (d : ℕ) → (spaceAfter s st a d).used ≤ 2 ^ s.p
-  unfolding pageSize
+  used-of : (d : ℕ) → (space_after s st a d).used ≤ 2 ^ s.p
+  unfolding page_size
   used-of = space-all s st a (λ d x. x.used ≤ 2 ^ s.p) G.used
-      (λ x. grown-used s.p x (length (nameHead a)) (head-short s a e.legal G.sizes))
-      (λ x. grown-used s.p x (length (keyOf (st.part a.kind).heads a)) (key-short s a e.legal G.sizes (st.part a.kind).heads))
+      (λ x. grown-used s.p x (length (name_head a)) (head-short s a e.legal G.sizes))
+      (λ x. grown-used s.p x (length (key_of (st.part a.kind).heads a)) (key-short s a e.legal G.sizes (st.part a.kind).heads))
 
-  pageless-of : (d : ℕ) → (spaceAfter s st a d).taken ≡ zero → (spaceAfter s st a d).used ≡ zero
+  pageless-of : (d : ℕ) → (space_after s st a d).taken ≡ zero → (space_after s st a d).used ≡ zero
   pageless-of = space-all s st a (λ d x. x.taken ≡ zero → x.used ≡ zero) G.pageless
-      (λ x z. absurd (omega (arith, grown-taken s.p x (length (nameHead a)))))
-      (λ x z. absurd (omega (arith, grown-taken s.p x (length (keyOf (st.part a.kind).heads a)))))
+      (λ x z. absurd (omega (arith, grown-taken s.p x (length (name_head a)))))
+      (λ x z. absurd (omega (arith, grown-taken s.p x (length (key_of (st.part a.kind).heads a)))))
 
-  beyond-of : (d : ℕ) → dictionaries ≤ d → (spaceAfter s st a d).taken ≡ zero
+  beyond-of : (d : ℕ) → dictionaries ≤ d → (space_after s st a d).taken ≡ zero
   beyond-of = space-all s st a (λ d x. dictionaries ≤ d → x.taken ≡ zero) G.beyond
       (λ x h. absurd (omega (arith, head-below a.kind))) (λ x h. absurd (omega (arith, main-below a.kind)))
 
@@ -133,10 +133,10 @@ module _ (s : Sizes) (st : State) (a : Name) (g : ℕ) (G : Good s st) (e : Ente
   }
 
 -- An add keeps a state good.
-pub add-good : (s : Sizes) (st : State) (a : Name) → Good s st → Good s (afterAdd s st a)
+pub add-good : (s : Sizes) (st : State) (a : Name) → Good s st → Good s (after_add s st a)
 add-good s st a G = go (decide s st a) refl
   where
-    go : (d : Decision) → decide s st a ≡ d → Good s (stateBy s st a d)
+    go : (d : Decision) → decide s st a ≡ d → Good s (state_by s st a d)
     go (refuse r) e = G
     go (found n) e = G
     go (enter g) e = extended-good s st a g G (entering s st a g e)

@@ -13,22 +13,22 @@ use Rattle.blocks.specs.Blocks.{Block, free, held, took, global, newest}
 use Rattle.blocks.specs.Sound.{May}
 use Rattle.meta_dv_dict.proofs.Numbers.{to-local, to-global, numbers_stay, newest-given}
 use Rattle.model.specs.Names.{Name, same_name}
-use Rattle.model.specs.State.{State, localOf, global_of, number_of, name_at, name_of}
+use Rattle.model.specs.State.{State, local_of, global_of, number_of, name_at, name_of}
 use Rattle.model.specs.Steps.{extended}
 use Rattle.model.specs.Good.{Good}
 use Rattle.model.proofs.Names.{local-lt, name_back, local_back}
 
 module _ (s : Sizes) (st : State) (G : Good s st) where
   -- A name's local number is one that its kind has given.
-  below_next : (k : ℕ) (a : Name) (n : ℕ) → localOf a (st.part k).names ≡ some n → n < st.blocks.next k
+  below_next : (k : ℕ) (a : Name) (n : ℕ) → local_of a (st.part k).names ≡ some n → n < st.blocks.next k
   below_next k a n e = omega (arith, local-lt a (st.part k).names n e, (G.part k).numbered)
 
   -- Reading a name's number gives the name,
   pub read_back : (a : Name) (n : ℕ) → number_of s st a ≡ some n → name_of s st n ≡ some a
   unfolding number_of name_of
-  read_back a n e = go (localOf a (st.part a.kind).names) refl e
+  read_back a n e = go (local_of a (st.part a.kind).names) refl e
     where
-      go : (o : Option ℕ) → localOf a (st.part a.kind).names ≡ o → global_of s.w st.blocks a.kind o ≡ some n → name_of s st n ≡ some a
+      go : (o : Option ℕ) → local_of a (st.part a.kind).names ≡ o → global_of s.w st.blocks a.kind o ≡ some n → name_of s st n ≡ some a
       go none p q = let z : ◌≡◌ {A = ℕ} 0 1 = cc in absurd (omega arith)
       go (some i) p q =
           let m : n ≡ global s.w st.blocks a.kind i = cc in
@@ -44,9 +44,9 @@ module _ (s : Sizes) (st : State) (G : Good s st) where
       go free p q = let z : ◌≡◌ {A = ℕ} 0 1 = cc in absurd (omega arith)
       go (held k l) p q =
           let i : ℕ = l * 2 ^ s.w + n % 2 ^ s.w in
-          let r : (localOf a (st.part k).names ≡ some i) × (a.kind ≡ k) = local_back s k _ a (st.part k).names i (G.part k).names q in
+          let r : (local_of a (st.part k).names ≡ some i) × (a.kind ≡ k) = local_back s k _ a (st.part k).names i (G.part k).names q in
           let m : global s.w st.blocks k i ≡ n = to-global s.w st.blocks G.sound n k l p in
-          ap (λ (j : ℕ). global_of s.w st.blocks j (localOf a (st.part j).names)) r.1
+          ap (λ (j : ℕ). global_of s.w st.blocks j (local_of a (st.part j).names)) r.1
           ∙ ap (λ (o : Option ℕ). global_of s.w st.blocks k o) r.0 ∙ ap some m
 
   -- ---- a fresh name
@@ -67,8 +67,8 @@ module _ (s : Sizes) (st : State) (G : Good s st) where
 
         go : Dec (a.kind ≡ b.kind) → Split (same_name b a) → Goal
         go (no q) d = rw (ne_eqb a.kind b.kind q, ne_eqb b.kind a.kind (λ e. q (sym e)))
-            (stays b.kind (localOf b (st.part b.kind).names) (λ i e. below_next b.kind b i e))
+            (stays b.kind (local_of b (st.part b.kind).names) (λ i e. below_next b.kind b i e))
         go (yes q) (inr p) = rw (eq-eqb a.kind b.kind q, p)
-            (ap (λ (j : ℕ). global_of s.w (took s.w st.blocks a.kind g) b.kind (localOf b (st.part j).names)) q
-            ∙ stays b.kind (localOf b (st.part b.kind).names) (λ i e. below_next b.kind b i e))
+            (ap (λ (j : ℕ). global_of s.w (took s.w st.blocks a.kind g) b.kind (local_of b (st.part j).names)) q
+            ∙ stays b.kind (local_of b (st.part b.kind).names) (λ i e. below_next b.kind b i e))
         go (yes q) (inl p) = rw (eq-eqb a.kind b.kind q, p, ← q, ← (G.part a.kind).numbered) (ap some (newest-given s.w st.blocks a.kind g M))

@@ -11,7 +11,7 @@ use lib.Dec.{ltb, eqb}
 use lib.ListN.{length, get_or, get_or-eq_default}
 use Rattle.slices.proofs.Tests.{Split, split, and_left, and_right, clash}
 use Rattle.layout.specs.Sizes.{kinds, dictionaries}
-use Rattle.model.specs.Kinds.{Way, splits, whole, packs, pairs, Row, plain, rows, row_at, hasHeads, row}
+use Rattle.model.specs.Kinds.{Way, splits, whole, packs, pairs, Row, plain, rows, row_at, has_heads, row}
 
 -- ---- a test of all rows, and the rule at each
 
@@ -50,56 +50,56 @@ by_only a b t p = rw p at t
 
 -- ---- dictionaries
 
-pub main-below : (k : ℕ) → (row k).mainAt < dictionaries
-main-below k = ltb-true _ _ (any-row (λ r. ltb r.mainAt dictionaries) refl refl k)
+pub main-below : (k : ℕ) → (row k).main_at < dictionaries
+main-below k = ltb-true _ _ (any-row (λ r. ltb r.main_at dictionaries) refl refl k)
 
-pub head-below : (k : ℕ) → (row k).headsAt < dictionaries
-head-below k = ltb-true _ _ (any-row (λ r. ltb r.headsAt dictionaries) refl refl k)
+pub head-below : (k : ℕ) → (row k).heads_at < dictionaries
+head-below k = ltb-true _ _ (any-row (λ r. ltb r.heads_at dictionaries) refl refl k)
 
 -- A kind with heads has them in a dictionary of their own.
-pub head_apart : (k : ℕ) → (row k).paired ≡ true → (row k).headsAt ≡ (row k).mainAt → ⊥
+pub head_apart : (k : ℕ) → (row k).paired ≡ true → (row k).heads_at ≡ (row k).main_at → ⊥
 head_apart k p e =
-    let t = by_only (hasHeads (row_at k).way) _ (any-row (λ r. only (hasHeads r.way) (not (eqb r.headsAt r.mainAt))) refl refl k) p in
+    let t = by_only (has_heads (row_at k).way) _ (any-row (λ r. only (has_heads r.way) (not (eqb r.heads_at r.main_at))) refl refl k) p in
     clash (eq-eqb _ _ e) (not-true _ t)
 
 -- The first kind that has the dictionary, counted from k.
-abbrev firstWith : ℕ → ℕ → List Row → ℕ
-firstWith d k [] = k
-firstWith d k (r ∷ rs) = cond (eqb r.mainAt d || eqb r.headsAt d) k (firstWith d (suc k) rs)
+abbrev first_with : ℕ → ℕ → List Row → ℕ
+first_with d k [] = k
+first_with d k (r ∷ rs) = cond (eqb r.main_at d || eqb r.heads_at d) k (first_with d (suc k) rs)
 
-abbrev pub ownerKind : ℕ → ℕ
-ownerKind d = firstWith d 0 rows
+abbrev pub owner_kind : ℕ → ℕ
+owner_kind d = first_with d 0 rows
 
 -- It is the only one: no two kinds share a dictionary.
-pub main-kind : (k : ℕ) → k < kinds → ownerKind (row k).mainAt ≡ k
-main-kind k l = eqb-true _ _ (each_row (λ j r. eqb (ownerKind r.mainAt) j) refl k l)
+pub main-kind : (k : ℕ) → k < kinds → owner_kind (row k).main_at ≡ k
+main-kind k l = eqb-true _ _ (each_row (λ j r. eqb (owner_kind r.main_at) j) refl k l)
 
-pub heads-kind : (k : ℕ) → k < kinds → ownerKind (row k).headsAt ≡ k
-heads-kind k l = eqb-true _ _ (each_row (λ j r. eqb (ownerKind r.headsAt) j) refl k l)
+pub heads-kind : (k : ℕ) → k < kinds → owner_kind (row k).heads_at ≡ k
+heads-kind k l = eqb-true _ _ (each_row (λ j r. eqb (owner_kind r.heads_at) j) refl k l)
 
 -- ---- ways
 
 -- A kind that does not exist has no heads.
 pub no-pair : (k : ℕ) → kinds ≤ k → (row k).paired ≡ false
-no-pair k h = ap (λ (r : Row). hasHeads r.way) (no_row k h)
+no-pair k h = ap (λ (r : Row). has_heads r.way) (no_row k h)
 
 -- The ways that store nothing of the second part.
-abbrev pub firstOnly : Way → Bool
-firstOnly splits = true
-firstOnly whole = true
-firstOnly packs = false
-firstOnly pairs = false
+abbrev pub first_only : Way → Bool
+first_only splits = true
+first_only whole = true
+first_only packs = false
+first_only pairs = false
 
 -- A kind that is stored so has no second part.
-pub no_second : (k : ℕ) → firstOnly (row k).way ≡ true → (row k).noSecond ≡ true
-no_second k = by_only _ _ (any-row (λ r. only (firstOnly r.way) r.noSecond) refl refl k)
+pub no_second-row : (k : ℕ) → first_only (row k).way ≡ true → (row k).no_second ≡ true
+no_second-row k = by_only _ _ (any-row (λ r. only (first_only r.way) r.no_second) refl refl k)
 
-abbrev pub packsTag : Way → Bool
-packsTag splits = false
-packsTag whole = false
-packsTag packs = true
-packsTag pairs = false
+abbrev pub packs_tag : Way → Bool
+packs_tag splits = false
+packs_tag whole = false
+packs_tag packs = true
+packs_tag pairs = false
 
 -- A tag that is packed is not empty.
-pub needs-tag : (k : ℕ) → packsTag (row k).way ≡ true → (row k).needsTag ≡ true
-needs-tag k = by_only _ _ (any-row (λ r. only (packsTag r.way) r.needsTag) refl refl k)
+pub needs-tag : (k : ℕ) → packs_tag (row k).way ≡ true → (row k).needs_tag ≡ true
+needs-tag k = by_only _ _ (any-row (λ r. only (packs_tag r.way) r.needs_tag) refl refl k)

@@ -5,8 +5,8 @@ use Rattle.slices.specs.Bytes.{Bytes}
 use Rattle.refusals.specs.declared.Refusal.{Refusal}
 use Rattle.layout.specs.declared.Sizes.{Sizes}
 use Rattle.layout.specs.Sizes.{kinds}
-use Rattle.blocks.specs.Rule.{blockRule}
-use Rattle.blocks.specs.Blocks.{pick, blocksAfter, numberPicked}
+use Rattle.blocks.specs.Rule.{block_rule}
+use Rattle.blocks.specs.Blocks.{pick, blocks_after, number_picked}
 use Rattle.model.specs.Names.{Name}
 use Rattle.model.specs.Answers.{AddAnswer, FindAnswer, ReadAnswer, CountAnswer}
 use Rattle.model.specs.State.{State, number_of}
@@ -61,15 +61,15 @@ pub record Before : Type 1 where
 
 -- For a list that starts from a freshly opened dictionary: there was nothing before it, and document 01's block rule gives the numbers.
 abbrev pub nothing : Sizes → Before
-nothing s = record { given = λ a n. ⊥; count = λ k. zero; rule = blockRule s }
+nothing s = record { given = λ a n. ⊥; count = λ k. zero; rule = block_rule s }
 
 -- The number that the steps of the block rule give a fresh name of the kind k, from the state's blocks and after fresh names of these kinds, newest first.
-abbrev pub stepsRule : Sizes → State → List ℕ → ℕ → Option ℕ
-stepsRule s st ks k = numberPicked s.w (blocksAfter s st.blocks ks) k (pick s (blocksAfter s st.blocks ks) k)
+abbrev pub steps_rule : Sizes → State → List ℕ → ℕ → Option ℕ
+steps_rule s st ks k = number_picked s.w (blocks_after s st.blocks ks) k (pick s (blocks_after s st.blocks ks) k)
 
 -- For a list that starts from a state: what the state has was there before it.
-abbrev pub beforeOf : Sizes → State → Before
-beforeOf s st = record { given = λ a n. number_of s st a ≡ some n; count = λ k. length (st.part k).names; rule = stepsRule s st }
+abbrev pub before_of : Sizes → State → Before
+before_of s st = record { given = λ a n. number_of s st a ≡ some n; count = λ k. length (st.part k).names; rule = steps_rule s st }
 
 -- The name a was given the number n in the list or before it.
 abbrev pub Given : Before → Name → ℕ → List Effect → Type 0
@@ -86,20 +86,20 @@ Issued o a n (known b m ∷ es) = Issued o a n es
 Issued o a n (no-effect ∷ es) = Issued o a n es
 
 -- The fresh names, newest first, put in front of the names ns.
-abbrev pub freshNames : List Name → List Effect → List Name
-freshNames ns [] = ns
-freshNames ns (fresh a n ∷ es) = a ∷ freshNames ns es
-freshNames ns (known a n ∷ es) = freshNames ns es
-freshNames ns (no-effect ∷ es) = freshNames ns es
+abbrev pub fresh_names : List Name → List Effect → List Name
+fresh_names ns [] = ns
+fresh_names ns (fresh a n ∷ es) = a ∷ fresh_names ns es
+fresh_names ns (known a n ∷ es) = fresh_names ns es
+fresh_names ns (no-effect ∷ es) = fresh_names ns es
 
 -- The kinds of the fresh names, newest first.
-abbrev pub freshKinds : List Effect → List ℕ
-freshKinds es = map (λ (a : Name). a.kind) (freshNames [] es)
+abbrev pub fresh_kinds : List Effect → List ℕ
+fresh_kinds es = map (λ (a : Name). a.kind) (fresh_names [] es)
 
 -- c plus how often k is in the list.
-abbrev pub howMany : ℕ → ℕ → List ℕ → ℕ
-howMany c k [] = c
-howMany c k (j ∷ ks) = cond (eqb k j) (suc (howMany c k ks)) (howMany c k ks)
+abbrev pub how_many : ℕ → ℕ → List ℕ → ℕ
+how_many c k [] = c
+how_many c k (j ∷ ks) = cond (eqb k j) (suc (how_many c k ks)) (how_many c k ks)
 
 -- ---- demand 3, of the events alone
 
@@ -115,9 +115,9 @@ pub record Demand3 (o : Before) (es : List Event) : Type 0 where
   -- and none before it or without one.
   pub find-before : (xs : List Event) (a : Name) (r : FindAnswer) → At (find a r) xs es → Accepted r → ((n : ℕ) → ¬ Given o a n (effects xs)) → r ≡ FindAnswer.absent
   -- The n-th fresh name of a kind has the number that the block rule gives from the kinds of the fresh names, in order.
-  pub in_order : (xs : List Event) (a : Name) (n : ℕ) → At (add a (AddAnswer.fresh n)) xs es → o.rule (freshKinds (effects xs)) a.kind ≡ some n
+  pub in_order : (xs : List Event) (a : Name) (n : ℕ) → At (add a (AddAnswer.fresh n)) xs es → o.rule (fresh_kinds (effects xs)) a.kind ≡ some n
   -- A count of a kind gives how many adds of the kind had said fresh by then.
-  pub counts : (xs : List Event) (k : ℕ) (r : CountAnswer) → At (count k r) xs es → k < kinds → r ≡ CountAnswer.count (howMany (o.count k) k (freshKinds (effects xs)))
+  pub counts : (xs : List Event) (k : ℕ) (r : CountAnswer) → At (count k r) xs es → k < kinds → r ≡ CountAnswer.count (how_many (o.count k) k (fresh_kinds (effects xs)))
   -- A read gives exactly its name for each number issued by then, if the buffer is long enough,
   pub read_name : (xs : List Event) (n : ℕ) (x y : Bytes) (r : ReadAnswer) (a : Name) → At (read n x r y) xs es
       → Issued o a n (effects xs) → length a.first + length a.second ≤ length x

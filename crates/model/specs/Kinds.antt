@@ -1,7 +1,7 @@
 -- The table of kinds: what a name's second part may be, its dictionaries, and what they store of it. Assumes nothing.
 use Rattle.std.specs.Prelude.{ℕ, ◌≡◌, refl, Bool, true, false, List, [], ◌∷◌, length, get_or, take, drop}
 use Rattle.slices.specs.Bytes.{Bytes}
-use Rattle.ranked_pair_iri_dv_dict.specs.Split.{headLength}
+use Rattle.ranked_pair_iri_dv_dict.specs.Split.{head_length}
 use Rattle.string_dv_dict.specs.Packed.{packed}
 use Rattle.layout.specs.Sizes.{kinds}
 use Rattle.model.specs.Names.{Name}
@@ -20,24 +20,24 @@ pub data Way : Type 0 where
 -- ---- the table: one row for each kind, kind 0 first
 
 pub record Row : Type 0 where
-  pub noSecond : Bool
-  pub needsTag : Bool
-  pub headsAt : ℕ
-  pub mainAt : ℕ
+  pub no_second : Bool
+  pub needs_tag : Bool
+  pub heads_at : ℕ
+  pub main_at : ℕ
   pub way : Way
 
 abbrev pub iri : Row
-iri = record { noSecond = true; needsTag = false; headsAt = 0; mainAt = 1; way = splits }
+iri = record { no_second = true; needs_tag = false; heads_at = 0; main_at = 1; way = splits }
 
 abbrev pub plain : Row
-plain = record { noSecond = true; needsTag = false; headsAt = 2; mainAt = 2; way = whole }
+plain = record { no_second = true; needs_tag = false; heads_at = 2; main_at = 2; way = whole }
 
 -- Its first part is the text, its second the tag.
 abbrev pub tagged : Row
-tagged = record { noSecond = false; needsTag = true; headsAt = 3; mainAt = 3; way = packs }
+tagged = record { no_second = false; needs_tag = true; heads_at = 3; main_at = 3; way = packs }
 
 abbrev pub typed : Row
-typed = record { noSecond = false; needsTag = false; headsAt = 4; mainAt = 5; way = pairs }
+typed = record { no_second = false; needs_tag = false; heads_at = 4; main_at = 5; way = pairs }
 
 abbrev pub rows : List Row
 rows = iri ∷ plain ∷ tagged ∷ typed ∷ []
@@ -52,48 +52,48 @@ row_at k = get_or rows k plain
 -- ---- what a way makes of a name
 
 -- Whether the head is an entry of its own, and the main entry is the head's frequent id, then the rest. Otherwise the rest is the main entry.
-abbrev pub hasHeads : Way → Bool
-hasHeads splits = true
-hasHeads whole = false
-hasHeads packs = false
-hasHeads pairs = true
+abbrev pub has_heads : Way → Bool
+has_heads splits = true
+has_heads whole = false
+has_heads packs = false
+has_heads pairs = true
 
 -- An IRI splits after its last '/' or '#'.
-abbrev pub headBy : Way → Name → Bytes
-headBy splits a = take (headLength a.first) a.first
-headBy whole a = []
-headBy packs a = []
-headBy pairs a = a.first
+abbrev pub head_by : Way → Name → Bytes
+head_by splits a = take (head_length a.first) a.first
+head_by whole a = []
+head_by packs a = []
+head_by pairs a = a.first
 
-abbrev pub restBy : Way → Name → Bytes
-restBy splits a = drop (headLength a.first) a.first
-restBy whole a = a.first
-restBy packs a = packed a.first a.second
-restBy pairs a = a.second
+abbrev pub rest_by : Way → Name → Bytes
+rest_by splits a = drop (head_length a.first) a.first
+rest_by whole a = a.first
+rest_by packs a = packed a.first a.second
+rest_by pairs a = a.second
 
 -- ---- a kind: its row, and what its way makes of a name
 
 pub record Kind : Type 0 where
-  pub noSecond : Bool
-  pub needsTag : Bool
-  pub headsAt : ℕ
-  pub mainAt : ℕ
+  pub no_second : Bool
+  pub needs_tag : Bool
+  pub heads_at : ℕ
+  pub main_at : ℕ
   pub way : Way
   pub paired : Bool
   pub head : Name → Bytes
   pub rest : Name → Bytes
 
-abbrev pub byRow : Row → Kind
-byRow r = record {
-  noSecond = r.noSecond;
-  needsTag = r.needsTag;
-  headsAt = r.headsAt;
-  mainAt = r.mainAt;
+abbrev pub by_row : Row → Kind
+by_row r = record {
+  no_second = r.no_second;
+  needs_tag = r.needs_tag;
+  heads_at = r.heads_at;
+  main_at = r.main_at;
   way = r.way;
-  paired = hasHeads r.way;
-  head = headBy r.way;
-  rest = restBy r.way;
+  paired = has_heads r.way;
+  head = head_by r.way;
+  rest = rest_by r.way;
 }
 
 abbrev pub row : ℕ → Kind
-row k = byRow (row_at k)
+row k = by_row (row_at k)

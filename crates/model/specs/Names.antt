@@ -1,6 +1,6 @@
 -- Names: a kind and two parts. Assumes nothing.
 use Rattle.std.specs.Prelude.{ℕ, ◌+◌, Bool, ◌&&◌, eqb, length}
-use Rattle.slices.specs.Bytes.{Bytes, sameBytes}
+use Rattle.slices.specs.Bytes.{Bytes, same_bytes}
 
 pub record Name : Type 0 where
   pub kind : ℕ
@@ -17,4 +17,4 @@ size a = length a.first + length a.second
 
 -- Names are equal when kind and both parts agree byte for byte.
 abbrev pub same_name : Name → Name → Bool
-same_name a b = eqb a.kind b.kind && (sameBytes a.first b.first && sameBytes a.second b.second)
+same_name a b = eqb a.kind b.kind && (same_bytes a.first b.first && same_bytes a.second b.second)

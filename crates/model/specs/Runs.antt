@@ -4,15 +4,15 @@ use Rattle.refusals.specs.declared.Refusal.{Refusal}
 use Rattle.layout.specs.declared.Sizes.{Sizes}
 use Rattle.model.specs.Answers.{AddAnswer, FindAnswer, ReadAnswer, CountAnswer}
 use Rattle.model.specs.State.{State}
-use Rattle.model.specs.Steps.{addAnswer, afterAdd, findAnswer, readAnswer, readBuffer, countAnswer}
+use Rattle.model.specs.Steps.{add_answer, after_add, find_answer, read_answer, read_buffer, count_answer}
 use Rattle.model.specs.Calls.{Event, add, find, read, count}
 
 -- A call answers as the state says.
 abbrev pub RightAnswer : Sizes → State → Event → Type 0
-RightAnswer s st (add a r) = r ≡ addAnswer s st a
-RightAnswer s st (find a r) = r ≡ findAnswer s st a
-RightAnswer s st (read n x r y) = (r ≡ readAnswer s st n x) × (y ≡ readBuffer s st n x)
-RightAnswer s st (count k r) = r ≡ countAnswer st k
+RightAnswer s st (add a r) = r ≡ add_answer s st a
+RightAnswer s st (find a r) = r ≡ find_answer s st a
+RightAnswer s st (read n x r y) = (r ≡ read_answer s st n x) × (y ≡ read_buffer s st n x)
+RightAnswer s st (count k r) = r ≡ count_answer st k
 
 -- A call was refused for this reason.
 abbrev pub RefusedFor : Refusal → Event → Type 0
@@ -23,7 +23,7 @@ RefusedFor why (count k r) = r ≡ CountAnswer.refused why
 
 -- The state after a call.
 abbrev pub after_call : Sizes → State → Event → State
-after_call s st (add a r) = afterAdd s st a
+after_call s st (add a r) = after_add s st a
 after_call s st (find a r) = st
 after_call s st (read n x r y) = st
 after_call s st (count k r) = st

@@ -1,11 +1,11 @@
 -- The dictionary's state, and what is looked up in it. Assumes nothing.
 use Rattle.std.specs.Prelude.{ℕ, ◌+◌, ◌*◌, ◌/◌, ◌%◌, ◌^◌, cond, List, [], ◌∷◌, eqb, length}
 use Rattle.std.proofs.Math.Option.{Option, none, some}
-use Rattle.slices.specs.Bytes.{Bytes, sameBytes}
+use Rattle.slices.specs.Bytes.{Bytes, same_bytes}
 use Rattle.layout.specs.declared.Sizes.{Sizes}
 use Rattle.layout.specs.Sizes.{kinds}
-use Rattle.bytes_buffer.specs.Pages.{Space, noSpace, sum}
-use Rattle.blocks.specs.Blocks.{Block, free, held, Blocks, noBlocks, global}
+use Rattle.bytes_buffer.specs.Pages.{Space, no_space, sum}
+use Rattle.blocks.specs.Blocks.{Block, free, held, Blocks, no_blocks, global}
 use Rattle.model.specs.Names.{Name, same_name}
 
 -- A name with its order stamp: how many local numbers all kinds had used up before it.
@@ -26,25 +26,25 @@ pub record State : Type 0 where
 
 -- A freshly opened dictionary: no names.
 abbrev pub opened : State
-opened = record { part = λ k. record { names = []; heads = [] }; blocks = noBlocks; space = noSpace }
+opened = record { part = λ k. record { names = []; heads = [] }; blocks = no_blocks; space = no_space }
 
 -- The next stamp.
-abbrev pub stampOf : Blocks → ℕ
-stampOf b = sum b.next kinds
+abbrev pub stamp_of : Blocks → ℕ
+stamp_of b = sum b.next kinds
 
 -- ---- local numbers: how many of the list are older
 
-abbrev pub localOf : Name → List Stamped → Option ℕ
-localOf a [] = none
-localOf a (x ∷ xs) = cond (same_name a x.name) (some (length xs)) (localOf a xs)
+abbrev pub local_of : Name → List Stamped → Option ℕ
+local_of a [] = none
+local_of a (x ∷ xs) = cond (same_name a x.name) (some (length xs)) (local_of a xs)
 
-abbrev pub nameIn : ℕ → List Stamped → Option Name
-nameIn n [] = none
-nameIn n (x ∷ xs) = cond (eqb n (length xs)) (some x.name) (nameIn n xs)
+abbrev pub name_in : ℕ → List Stamped → Option Name
+name_in n [] = none
+name_in n (x ∷ xs) = cond (eqb n (length xs)) (some x.name) (name_in n xs)
 
-abbrev pub entryNumber : Bytes → List Bytes → Option ℕ
-entryNumber h [] = none
-entryNumber h (x ∷ xs) = cond (sameBytes h x) (some (length xs)) (entryNumber h xs)
+abbrev pub entry_number : Bytes → List Bytes → Option ℕ
+entry_number h [] = none
+entry_number h (x ∷ xs) = cond (same_bytes h x) (some (length xs)) (entry_number h xs)
 
 -- ---- global numbers
 
@@ -54,11 +54,11 @@ global_of w b k (some n) = some (global w b k n)
 
 -- The number that a name has.
 unfoldable pub number_of : Sizes → State → Name → Option ℕ
-number_of s st a = global_of s.w st.blocks a.kind (localOf a (st.part a.kind).names)
+number_of s st a = global_of s.w st.blocks a.kind (local_of a (st.part a.kind).names)
 
 abbrev pub name_at : ℕ → State → ℕ → Block → Option Name
 name_at w st n free = none
-name_at w st n (held k l) = nameIn (l * 2 ^ w + n % 2 ^ w) (st.part k).names
+name_at w st n (held k l) = name_in (l * 2 ^ w + n % 2 ^ w) (st.part k).names
 
 -- The name that has a number.
 unfoldable pub name_of : Sizes → State → ℕ → Option Name

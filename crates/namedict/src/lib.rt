@@ -2,13 +2,13 @@
 #![tactic(auto)]
 
 ghost use Rattle.std.specs.Prelude.{◌≡◌, length};
-ghost use Rattle.utf8.specs.Text.{isText};
+ghost use Rattle.utf8.specs.Text.{is_text};
 ghost use Rattle.ranked_pair_iri_dv_dict.specs.Split.{head_of, length_of};
-ghost use Rattle.ranked_pair_dictionary.specs.FrequentId.{writeFidAnswer, writeFidBuffer, readFidAnswer};
-ghost use Rattle.string_dv_dict.specs.Answers.{packAnswer, packBuffer};
-ghost use Rattle.string_dv_dict_unpack.specs.Answers.{unpackAnswer, unpackBuffer};
+ghost use Rattle.ranked_pair_dictionary.specs.FrequentId.{write_fid_answer, write_fid_buffer, read_fid_answer};
+ghost use Rattle.string_dv_dict.specs.Answers.{pack_answer, pack_buffer};
+ghost use Rattle.string_dv_dict_unpack.specs.Answers.{unpack_answer, unpack_buffer};
 ghost use Rattle.model.specs.Names.{entered};
-ghost use Rattle.leaf_numbers.specs.Numbers.{yesNo, writtenNumbers, valueNumbers, unpackedNumbers};
+ghost use Rattle.leaf_numbers.specs.Numbers.{yes_no, written_numbers, value_numbers, unpacked_numbers};
 ghost use Rattle.returned.specs.Returned.{OpenReturned, AddReturned, FindReturned, ReadReturned, CountReturned};
 
 use leaf_numbers::{NamedictUnpacked, NamedictValue, NamedictWritten};
@@ -20,7 +20,7 @@ use numbers::{NamedictCounted, NamedictName, NamedictNumbered};
 // 1 if the bytes are text, else 0.
 #[unsafe(no_mangle)]
 pub extern "C" fn namedict_is_text(bytes: &[u8]) -> u64
-    ensures value { result ≡ yesNo (isText bytes.now) }
+    ensures value { result ≡ yes_no (is_text bytes.now) }
     ensures kept { bytes.exit.now ≡ bytes.entry.now }
 {
     leaf_numbers::yes_no(utf8::is_text(bytes))
@@ -38,7 +38,7 @@ pub extern "C" fn namedict_split_iri(iri: &[u8]) -> u64
 // Writes a frequent id at the buffer's start.
 #[unsafe(no_mangle)]
 pub extern "C" fn namedict_write_fid(value: u64, buffer: &mut [u8]) -> NamedictWritten
-    ensures { (result ≡ writtenNumbers (writeFidAnswer value (length buffer.old))) × (buffer.new ≡ writeFidBuffer value buffer.old) }
+    ensures { (result ≡ written_numbers (write_fid_answer value (length buffer.old))) × (buffer.new ≡ write_fid_buffer value buffer.old) }
 {
     leaf_numbers::written_numbers(ranked_pair_dictionary::write_frequent_id(value as usize, buffer))
 }
@@ -46,7 +46,7 @@ pub extern "C" fn namedict_write_fid(value: u64, buffer: &mut [u8]) -> NamedictW
 // Reads the frequent id in front of the bytes.
 #[unsafe(no_mangle)]
 pub extern "C" fn namedict_read_fid(bytes: &[u8]) -> NamedictValue
-    ensures value { result ≡ valueNumbers (readFidAnswer bytes.now) }
+    ensures value { result ≡ value_numbers (read_fid_answer bytes.now) }
     ensures kept { bytes.exit.now ≡ bytes.entry.now }
 {
     leaf_numbers::value_numbers(ranked_pair_dictionary::read_frequent_id(bytes))
@@ -55,7 +55,7 @@ pub extern "C" fn namedict_read_fid(bytes: &[u8]) -> NamedictValue
 // Packs a text and its tag at the buffer's start.
 #[unsafe(no_mangle)]
 pub extern "C" fn namedict_pack(text: &[u8], tag: &[u8], buffer: &mut [u8]) -> NamedictWritten
-    ensures value { (result ≡ writtenNumbers (packAnswer text.now tag.now (length buffer.old))) × (buffer.new ≡ packBuffer text.now tag.now buffer.old) }
+    ensures value { (result ≡ written_numbers (pack_answer text.now tag.now (length buffer.old))) × (buffer.new ≡ pack_buffer text.now tag.now buffer.old) }
     ensures kept { (text.exit.now ≡ text.entry.now) × (tag.exit.now ≡ tag.entry.now) }
 {
     leaf_numbers::written_numbers(string_dv_dict::two_strings_to_one(text, tag, buffer))
@@ -64,7 +64,7 @@ pub extern "C" fn namedict_pack(text: &[u8], tag: &[u8], buffer: &mut [u8]) -> N
 // Unpacks a form: the text at the buffer's start, the tag behind it.
 #[unsafe(no_mangle)]
 pub extern "C" fn namedict_unpack(packed: &[u8], buffer: &mut [u8]) -> NamedictUnpacked
-    ensures value { (result ≡ unpackedNumbers (unpackAnswer packed.now (length buffer.old))) × (buffer.new ≡ unpackBuffer packed.now buffer.old) }
+    ensures value { (result ≡ unpacked_numbers (unpack_answer packed.now (length buffer.old))) × (buffer.new ≡ unpack_buffer packed.now buffer.old) }
     ensures kept { packed.exit.now ≡ packed.entry.now }
 {
     leaf_numbers::unpacked_numbers(string_dv_dict_unpack::one_string_to_two(packed, buffer))

@@ -1,10 +1,10 @@
 -- The head and the rest of a name as the steps of an entry are given them. Assumes nothing.
 use Rattle.std.specs.Prelude.{ℕ, ◌≡◌, cond, length, drop}
 use Rattle.slices.specs.Bytes.{Bytes}
-use Rattle.ranked_pair_iri_dv_dict.specs.Split.{headLength}
+use Rattle.ranked_pair_iri_dv_dict.specs.Split.{head_length}
 use Rattle.model.specs.Names.{Name}
 use Rattle.model.specs.Kinds.{row}
-use Rattle.kind_table.specs.Rows.{isSplit}
+use Rattle.kind_table.specs.Rows.{is_split}
 
 -- A name of the kind k, which has heads, with this head and this rest.
 pub record IsPair (k : ℕ) (head rest : Bytes) (a : Name) : Type 0 where
@@ -13,9 +13,9 @@ pub record IsPair (k : ℕ) (head rest : Bytes) (a : Name) : Type 0 where
   pub rested : (row k).rest a ≡ rest
 
 -- How many bytes of the first part are the head, where the kind has heads. A first part that does not split is all head.
-abbrev pub headSize : ℕ → Bytes → ℕ
-headSize k first = cond (isSplit (row k).way) (headLength first) (length first)
+abbrev pub head_size : ℕ → Bytes → ℕ
+head_size k first = cond (is_split (row k).way) (head_length first) (length first)
 
 -- The rest, behind a head of n bytes.
-abbrev pub restBehind : ℕ → ℕ → Bytes → Bytes → Bytes
-restBehind n k first second = cond (isSplit (row k).way) (drop n first) second
+abbrev pub rest_behind : ℕ → ℕ → Bytes → Bytes → Bytes
+rest_behind n k first second = cond (is_split (row k).way) (drop n first) second

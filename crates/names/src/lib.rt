@@ -2,11 +2,11 @@
 #![tactic(auto)]
 
 ghost use Rattle.std.specs.Prelude.{◌≡◌, true, ◌&&◌, [], ◌≤◌, length};
-ghost use Rattle.utf8.specs.Text.{isText};
-ghost use Rattle.refusals.specs.Checked.{checkedBy};
+ghost use Rattle.utf8.specs.Text.{is_text};
+ghost use Rattle.refusals.specs.Checked.{checked_by};
 ghost use Rattle.model.specs.Names.{entered};
-ghost use Rattle.model.specs.Steps.{badKind, shapeRefusal, textRefusal};
-ghost use Rattle.names.specs.Given.{headSize, restBehind};
+ghost use Rattle.model.specs.Steps.{bad_kind, shape_refusal, text_refusal};
+ghost use Rattle.names.specs.Given.{head_size, rest_behind};
 
 use blocks::LocalId;
 use bytes_dictionary::EntryId;
@@ -28,7 +28,7 @@ pub fn local_to_entry(local: LocalId) -> EntryId
 }
 
 fn is_bad_kind(kind: usize, second: &[u8]) -> bool
-    ensures { result ≡ badKind (entered kind [] second.now) }
+    ensures { result ≡ bad_kind (entered kind [] second.now) }
 {
     if KINDS <= kind {
         return true;
@@ -38,7 +38,7 @@ fn is_bad_kind(kind: usize, second: &[u8]) -> bool
 
 // Refusals 4 and 5 of a name. How long a name may be is asked of the sizes.
 pub fn check_shape(s: Sizes, kind: usize, first: &[u8], second: &[u8]) -> Checked
-    ensures { result ≡ checkedBy (shapeRefusal s (entered kind first.now second.now)) }
+    ensures { result ≡ checked_by (shape_refusal s (entered kind first.now second.now)) }
 {
     if is_bad_kind(kind, second) {
         return Checked::Illegal(Refusal::BadKind);
@@ -51,8 +51,8 @@ pub fn check_shape(s: Sizes, kind: usize, first: &[u8], second: &[u8]) -> Checke
 
 // Whether both parts are text. `ascii`: the caller knows already that they are.
 fn are_text(first: &[u8], second: &[u8], ascii: bool) -> bool
-    requires { ascii ≡ true → (isText first.now ≡ true) × (isText second.now ≡ true) }
-    ensures { result ≡ (isText first.now && isText second.now) }
+    requires { ascii ≡ true → (is_text first.now ≡ true) × (is_text second.now ≡ true) }
+    ensures { result ≡ (is_text first.now && is_text second.now) }
 {
     if ascii {
         return true;
@@ -65,8 +65,8 @@ fn are_text(first: &[u8], second: &[u8], ascii: bool) -> bool
 
 // Refusals 6 and 7 of a name. `ascii`: the caller has seen every byte of the name, and all are ASCII.
 pub fn check_text(kind: usize, first: &[u8], second: &[u8], ascii: bool) -> Checked
-    requires { ascii ≡ true → (isText first.now ≡ true) × (isText second.now ≡ true) }
-    ensures { result ≡ checkedBy (textRefusal (entered kind first.now second.now)) }
+    requires { ascii ≡ true → (is_text first.now ≡ true) × (is_text second.now ≡ true) }
+    ensures { result ≡ checked_by (text_refusal (entered kind first.now second.now)) }
 {
     if !are_text(first, second, ascii) {
         return Checked::Illegal(Refusal::NotText);
@@ -79,7 +79,7 @@ pub fn check_text(kind: usize, first: &[u8], second: &[u8], ascii: bool) -> Chec
 
 // How many bytes of a name's first part are its head, where its kind has heads.
 pub fn head_length(kind: usize, first: &[u8]) -> usize
-    ensures { (result ≡ headSize kind first.now) × (result ≤ length first.now) }
+    ensures { (result ≡ head_size kind first.now) × (result ≤ length first.now) }
 {
     if !kind_table::is_split(kind) {
         return first.len();
@@ -94,7 +94,7 @@ pub fn head_length(kind: usize, first: &[u8]) -> usize
 // What follows a head of n bytes.
 pub fn rest_behind<'a>(kind: usize, first: &'a [u8], second: &'a [u8], n: usize) -> &'a [u8]
     requires { n ≤ length first.now }
-    ensures { result.now ≡ restBehind n kind first.now second.now }
+    ensures { result.now ≡ rest_behind n kind first.now second.now }
 {
     if !kind_table::is_split(kind) {
         return second;

@@ -3,11 +3,11 @@
 #![tactic(auto)]
 
 ghost use Rattle.std.specs.Prelude.{◌≡◌};
-ghost use Rattle.commit.specs.Answers.{addedBy};
-ghost use Rattle.dictionary_open.specs.Answers.{openedBy};
-ghost use Rattle.dictionary_find.specs.Answers.{foundBy};
-ghost use Rattle.dictionary_read.specs.Answers.{toldBy, countedBy};
-ghost use Rattle.numbers.specs.Numbers.{openNumber, refusedNumbers, addNumbers, findNumbers, nameNumbers, countNumbers};
+ghost use Rattle.commit.specs.Answers.{added_by};
+ghost use Rattle.dictionary_open.specs.Answers.{opened_by};
+ghost use Rattle.dictionary_find.specs.Answers.{found_by};
+ghost use Rattle.dictionary_read.specs.Answers.{told_by, counted_by};
+ghost use Rattle.numbers.specs.Numbers.{open_number, refused_numbers, add_numbers, find_numbers, name_numbers, count_numbers};
 
 use commit::AddResult;
 use dictionary_find::FindResult;
@@ -54,7 +54,7 @@ const NAME: u64 = 4;
 
 // 0 for done.
 pub fn open_number(answer: OpenResult) -> u64
-    ensures { result ≡ openNumber (openedBy answer) }
+    ensures { result ≡ open_number (opened_by answer) }
 {
     match answer {
         OpenResult::Done => 0,
@@ -73,7 +73,7 @@ fn numbered(word: u64, number: u64) -> NamedictNumbered
 }
 
 fn refused_numbers(why: Refusal) -> NamedictNumbered
-    ensures { result ≡ refusedNumbers why }
+    ensures { result ≡ refused_numbers why }
 {
     NamedictNumbered {
         refusal: refusals::number(why),
@@ -83,7 +83,7 @@ fn refused_numbers(why: Refusal) -> NamedictNumbered
 }
 
 pub fn add_numbers(answer: AddResult) -> NamedictNumbered
-    ensures { result ≡ addNumbers (addedBy answer) }
+    ensures { result ≡ add_numbers (added_by answer) }
 {
     match answer {
         AddResult::Fresh(x) => numbered(FRESH, x.0 as u64),
@@ -93,7 +93,7 @@ pub fn add_numbers(answer: AddResult) -> NamedictNumbered
 }
 
 pub fn find_numbers(answer: FindResult) -> NamedictNumbered
-    ensures { result ≡ findNumbers (foundBy answer) }
+    ensures { result ≡ find_numbers (found_by answer) }
 {
     match answer {
         FindResult::Known(x) => numbered(KNOWN, x.0 as u64),
@@ -103,7 +103,7 @@ pub fn find_numbers(answer: FindResult) -> NamedictNumbered
 }
 
 pub fn name_numbers(answer: ReadResult) -> NamedictName
-    ensures { result ≡ nameNumbers (toldBy answer) }
+    ensures { result ≡ name_numbers (told_by answer) }
 {
     match answer {
         ReadResult::Name {
@@ -135,7 +135,7 @@ pub fn name_numbers(answer: ReadResult) -> NamedictName
 }
 
 pub fn count_numbers(answer: CountResult) -> NamedictCounted
-    ensures { result ≡ countNumbers (countedBy answer) }
+    ensures { result ≡ count_numbers (counted_by answer) }
 {
     match answer {
         CountResult::Names(n) => NamedictCounted {

@@ -3,15 +3,15 @@
 
 ghost use Rattle.std.specs.Prelude.{◌≡◌, ◌+◌, ◌*◌, ◌≤◌, ◌<◌, length};
 ghost use Rattle.layout.specs.Sizes.{dictionaries};
-ghost use Rattle.layout.specs.Fields.{pageAt};
-ghost use Rattle.page_words.specs.Written.{extendedPage, tookPage};
+ghost use Rattle.layout.specs.Fields.{page_at};
+ghost use Rattle.page_words.specs.Written.{extended_page, took_page};
 
 use layout::{CURRENT, OWNERS, PAGE_NUMBERS, PAGES, POSITION, STRIDE, TAKEN, UNTAKEN};
 
 // Marks the page as used up to `used`. Its owner and its position stay.
 pub fn extend(lists: &mut [u8], page: usize, used: usize)
-    requires { (8 * pageAt page + 8 ≤ length lists.old) × (used < 2097152) }
-    ensures { lists.new ≡ extendedPage lists.old page used }
+    requires { (8 * page_at page + 8 ≤ length lists.old) × (used < 2097152) }
+    ensures { lists.new ≡ extended_page lists.old page used }
 {
     let w = words::word_at(lists, PAGES + page);
     words::put_word(
@@ -23,8 +23,8 @@ pub fn extend(lists: &mut [u8], page: usize, used: usize)
 
 // Makes the page the current one of dictionary d, used up to `used`. The page after it becomes the lowest untaken one.
 pub fn take_page(lists: &mut [u8], d: usize, page: usize, used: usize)
-    requires { (8 * pageAt page + 8 ≤ length lists.old) × (d < dictionaries) × (used < 2097152) }
-    ensures { lists.new ≡ tookPage lists.old d page used }
+    requires { (8 * page_at page + 8 ≤ length lists.old) × (d < dictionaries) × (used < 2097152) }
+    ensures { lists.new ≡ took_page lists.old d page used }
 {
     // While a page is left, a dictionary has fewer than 1,024 pages. So the remainder is the number itself.
     let taken = words::word_at(lists, TAKEN + STRIDE * d) % PAGE_NUMBERS;

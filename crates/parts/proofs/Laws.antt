@@ -7,13 +7,12 @@ use mathlib.Core.List.{[], ◌∷◌, ◌++◌}
 use native.Mathlib.Nat.{zero-add}
 use native.Mathlib.Omega.{arith}
 use lib.Dec.{eqb}
-use lib.ListN.{length, get_or, take, drop, set, length-take, length-append}
+use lib.ListN.{length, get_or, take, drop, set, length-append}
 use lib.Seq.{sets, sets-eq}
-use Rattle.slices.specs.Bytes.{Bytes, sameBytes}
-use Rattle.slices.proofs.Bytes.{bytes-true}
+use Rattle.slices.specs.Bytes.{Bytes, same_bytes}
 use Rattle.slices.proofs.Tests.{Split, split}
 use Rattle.encoding.specs.declared.Form.{Form}
-use Rattle.encoding.specs.Encoding.{formOf, encodedByte, encodedEnd, encoded}
+use Rattle.encoding.specs.Encoding.{form_of, encoded_byte, encoded_end, encoded}
 use Rattle.encoding.proofs.Laws.{length-encoded, tag-bytes, encoded-more, encoded-end}
 use Rattle.parts.specs.declared.Mode.{Mode}
 use Rattle.parts.specs.declared.Mode.TheVariants.{Raw, Tag}
@@ -22,14 +21,14 @@ use Rattle.parts.specs.Parts.{bytes_of}
 pub length-bytes : (m : Mode) (s : Bytes) → length (bytes_of m s) ≤ 2 * length s + 2
 unfolding bytes_of
 length-bytes Raw s = omega arith
-length-bytes Tag s = rw (tag-bytes s) (omega (arith, length-encoded (formOf s) s))
+length-bytes Tag s = rw (tag-bytes s) (omega (arith, length-encoded (form_of s) s))
 
 -- What is left at i is as long as what is stored there and what is left behind it.
-pub length-more : (form : Form) (i : ℕ) (s x : Bytes) → i < length s → x ≡ encodedByte form (get_or s i 0)
+pub length-more : (form : Form) (i : ℕ) (s x : Bytes) → i < length s → x ≡ encoded_byte form (get_or s i 0)
     → length (encoded form (drop i s)) ≡ length x + length (encoded form (drop (i + 1) s))
 length-more form i s x l e = rw (encoded-more form i s x l e) (length-append x (encoded form (drop (i + 1) s)))
 
-pub length-end : (form : Form) (i : ℕ) (s x : Bytes) → length s ≤ i → x ≡ encodedEnd form → length (encoded form (drop i s)) ≡ length x
+pub length-end : (form : Form) (i : ℕ) (s x : Bytes) → length s ≤ i → x ≡ encoded_end form → length (encoded form (drop i s)) ≡ length x
 length-end form i s x l e = ap length (encoded-end form i s x l e)
 
 -- ---- storing and comparing, one part after the other
@@ -52,18 +51,18 @@ and_assoc true b c = refl
 and_assoc false b c = refl
 
 -- A comparison, one part after the other.
-pub same-append : (x y s : Bytes) → sameBytes (x ++ y) s ≡ (sameBytes x (take (length x) s) && sameBytes y (drop (length x) s))
+pub same-append : (x y s : Bytes) → same_bytes (x ++ y) s ≡ (same_bytes x (take (length x) s) && same_bytes y (drop (length x) s))
 same-append [] y s = refl
 same-append (a ∷ x) y [] = refl
 same-append (a ∷ x) y (b ∷ s) = rw (same-append x y s, and_assoc)
 
 -- Lists of different lengths are not the same.
-pub same_length : (x y : Bytes) → (length x ≢ length y) → sameBytes x y ≡ false
+pub same_length : (x y : Bytes) → (length x ≢ length y) → same_bytes x y ≡ false
 same_length [] [] n = absurd (n refl)
 same_length [] (b ∷ y) n = refl
 same_length (a ∷ x) [] n = refl
 same_length (a ∷ x) (b ∷ y) n = go (split (eqb a b)) (same_length x y (λ e. n (ap suc e)))
   where
-    go : Split (eqb a b) → sameBytes x y ≡ false → (eqb a b && sameBytes x y) ≡ false
+    go : Split (eqb a b) → same_bytes x y ≡ false → (eqb a b && same_bytes x y) ≡ false
     go (inl p) ih = rw p ih
     go (inr p) ih = rw p

@@ -1,9 +1,9 @@
 -- Which bytes a slice with a mode stands for. Assumes nothing.
 use Rattle.slices.specs.Bytes.{Bytes}
-use Rattle.encoding.specs.Encoding.{tagBytes}
+use Rattle.encoding.specs.Encoding.{tag_bytes}
 use Rattle.parts.specs.declared.Mode.{Mode}
 use Rattle.parts.specs.declared.Mode.TheVariants.{Raw, Tag}
 
 unfoldable pub bytes_of : Mode → Bytes → Bytes
 bytes_of Raw s = s
-bytes_of Tag s = tagBytes s
+bytes_of Tag s = tag_bytes s

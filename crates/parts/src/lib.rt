@@ -3,8 +3,8 @@
 
 ghost use Rattle.std.specs.Prelude.{◌≡◌, ◌++◌, ◌+◌, ◌^◌, ◌≤◌, ◌<◌, length, drop};
 ghost use Rattle.std.proofs.lemmas.List.Edits.{sets};
-ghost use Rattle.fnv.specs.Fnv.{fnvFrom};
-ghost use Rattle.slices.specs.Bytes.{sameBytes};
+ghost use Rattle.fnv.specs.Fnv.{fnv_from};
+ghost use Rattle.slices.specs.Bytes.{same_bytes};
 ghost use Rattle.encoding.specs.Encoding.{encoded};
 ghost use Rattle.parts.specs.Parts.{bytes_of};
 
@@ -80,7 +80,7 @@ pub fn write(mode: Mode, s: &[u8], dst: &mut [u8])
 }
 
 fn hash_encoded(start: u32, form: Form, s: &[u8]) -> u32
-    ensures { result ≡ fnvFrom start (encoded form s.now) }
+    ensures { result ≡ fnv_from start (encoded form s.now) }
 {
     let mut h = start;
     let mut i = 0;
@@ -93,7 +93,7 @@ fn hash_encoded(start: u32, form: Form, s: &[u8]) -> u32
 
 // Extends the hash `start` by the stored bytes.
 pub fn hash_on(start: u32, mode: Mode, s: &[u8]) -> u32
-    ensures { result ≡ fnvFrom start (bytes_of mode s.now) }
+    ensures { result ≡ fnv_from start (bytes_of mode s.now) }
 {
     match mode {
         Mode::Raw => fnv::fnv_from(start, s),
@@ -106,7 +106,7 @@ pub fn hash_on(start: u32, mode: Mode, s: &[u8]) -> u32
 }
 
 fn same_raw(s: &[u8], stored: &[u8]) -> bool
-    ensures { result ≡ sameBytes s.now stored.now }
+    ensures { result ≡ same_bytes s.now stored.now }
 {
     if s.len() != stored.len() {
         return false;
@@ -124,7 +124,7 @@ fn same_raw(s: &[u8], stored: &[u8]) -> bool
 // Whether s is stored from `start` to the end. The lengths are compared first, so no byte needs a test for the end.
 fn same_encoded(form: Form, s: &[u8], stored: &[u8], start: usize) -> bool
     requires { start ≤ length stored.now }
-    ensures { result ≡ sameBytes (encoded form s.now) (drop start stored.now) }
+    ensures { result ≡ same_bytes (encoded form s.now) (drop start stored.now) }
 {
     if stored.len() - start != measure_encoded(form, s) {
         return false;
@@ -144,7 +144,7 @@ fn same_encoded(form: Form, s: &[u8], stored: &[u8], start: usize) -> bool
 
 // Whether s in this mode is stored as the bytes `stored`.
 pub fn same(mode: Mode, s: &[u8], stored: &[u8]) -> bool
-    ensures { result ≡ sameBytes (bytes_of mode s.now) stored.now }
+    ensures { result ≡ same_bytes (bytes_of mode s.now) stored.now }
 {
     match mode {
         Mode::Raw => same_raw(s, stored),

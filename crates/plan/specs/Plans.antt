@@ -3,20 +3,20 @@
 use Rattle.std.specs.Prelude.{ℕ, ◌*◌, ◌/◌, ◌^◌, ◌≤◌, ◌<◌, ◌≡◌, ◌⊎◌, Bool, true, false, cond, length}
 use Rattle.std.proofs.Math.Option.{none, some}
 use Rattle.slices.specs.Bytes.{Bytes}
-use Rattle.words.specs.Words.{wordAt}
+use Rattle.words.specs.Words.{word_at}
 use Rattle.refusals.specs.declared.Refusal.{Refusal}
 use Rattle.refusals.specs.declared.Refusal.TheVariants as W
 use Rattle.refusals.specs.declared.Checked.TheVariants.{Illegal}
 use Rattle.layout.specs.declared.Sizes.{Sizes}
 use Rattle.layout.specs.Sizes.{kinds}
-use Rattle.bytes_buffer.specs.Pages.{allPages}
+use Rattle.bytes_buffer.specs.Pages.{all_pages}
 use Rattle.bytes_buffer.specs.declared.Spot.{Spot}
 use Rattle.bytes_buffer.specs.declared.Spot.TheVariants.{NoPage}
-use Rattle.bytes_buffer.specs.Spots.{spotIn, untakenAfter}
+use Rattle.bytes_buffer.specs.Spots.{spot_in, untaken_after}
 use Rattle.bytes_dictionary.specs.Written.{HasRoom, IsSpot}
 use Rattle.blocks.specs.Blocks.{pick}
 use Rattle.model.specs.Kinds.{row}
-use Rattle.model.specs.State.{State, stampOf}
+use Rattle.model.specs.State.{State, stamp_of}
 use Rattle.memory.specs.Stands.{Stands}
 use Rattle.memory.specs.Promises.{NumberWithin}
 use Rattle.plan.specs.declared.HeadPlanned.{HeadPlanned}
@@ -24,48 +24,48 @@ use Rattle.plan.specs.declared.HeadPlanned.TheVariants as H
 use Rattle.plan.specs.declared.Plan.{Plan}
 use Rattle.plan.specs.declared.Planned.{Planned}
 use Rattle.plan.specs.declared.Planned.TheVariants.{Ready, Refused}
-use Rattle.plan_room.specs.Steps.{spotChecked}
+use Rattle.plan_room.specs.Steps.{spot_checked}
 
 -- `new`: is the head a new one? `untaken` is the lowest untaken page, `size` the head's length, `len` the key's.
 
 -- Where the head goes. A head that is not new goes nowhere.
-abbrev pub headSpotAt : Sizes → Bytes → ℕ → Bool → ℕ → ℕ → Spot
-headSpotAt s lists k new untaken size = cond new (spotIn s (wordAt lists) (row k).headsAt untaken size) NoPage
+abbrev pub head_spot_at : Sizes → Bytes → ℕ → Bool → ℕ → ℕ → Spot
+head_spot_at s lists k new untaken size = cond new (spot_in s (word_at lists) (row k).heads_at untaken size) NoPage
 
 -- Where the key goes after it.
-abbrev pub mainSpotAt : Sizes → Bytes → ℕ → Bool → ℕ → ℕ → ℕ → Spot
-mainSpotAt s lists k new untaken size len = spotIn s (wordAt lists) (row k).mainAt (untakenAfter untaken (headSpotAt s lists k new untaken size)) len
+abbrev pub main_spot_at : Sizes → Bytes → ℕ → Bool → ℕ → ℕ → ℕ → Spot
+main_spot_at s lists k new untaken size len = spot_in s (word_at lists) (row k).main_at (untaken_after untaken (head_spot_at s lists k new untaken size)) len
 
 -- The same at a state.
-abbrev pub headSpot : Sizes → State → Bytes → ℕ → Bool → ℕ → Spot
-headSpot s st lists k new size = headSpotAt s lists k new (allPages st.space) size
+abbrev pub head_spot : Sizes → State → Bytes → ℕ → Bool → ℕ → Spot
+head_spot s st lists k new size = head_spot_at s lists k new (all_pages st.space) size
 
-abbrev pub mainSpot : Sizes → State → Bytes → ℕ → Bool → ℕ → ℕ → Spot
-mainSpot s st lists k new size len = mainSpotAt s lists k new (allPages st.space) size len
+abbrev pub main_spot : Sizes → State → Bytes → ℕ → Bool → ℕ → ℕ → Spot
+main_spot s st lists k new size len = main_spot_at s lists k new (all_pages st.space) size len
 
 -- ---- the head's spot
 
 abbrev pub PlansHead : Sizes → Bytes → ℕ → Bool → ℕ → ℕ → HeadPlanned → Type 0
-PlansHead s lists k new untaken size (H.At spot) = (headSpotAt s lists k new untaken size ≡ spot) × (new ≡ true → IsSpot spot) × HasRoom s size spot
-PlansHead s lists k new untaken size (H.Refused why) = (new ≡ true) × (spotChecked (spotIn s (wordAt lists) (row k).headsAt untaken size) ≡ Illegal why)
+PlansHead s lists k new untaken size (H.At spot) = (head_spot_at s lists k new untaken size ≡ spot) × (new ≡ true → IsSpot spot) × HasRoom s size spot
+PlansHead s lists k new untaken size (H.Refused why) = (new ≡ true) × (spot_checked (spot_in s (word_at lists) (row k).heads_at untaken size) ≡ Illegal why)
 
 -- ---- the whole plan
 
 pub record ReadyName (s : Sizes) (st : State) (lists : Bytes) (k : ℕ) (new : Bool) (size len : ℕ) (x : Plan) : Type 0 where
   pub number : x.n ≡ length (st.part k).names
-  pub head : headSpot s st lists k new size ≡ x.head
-  pub spot : mainSpot s st lists k new size len ≡ x.spot
+  pub head : head_spot s st lists k new size ≡ x.head
+  pub spot : main_spot s st lists k new size len ≡ x.spot
   pub block : pick s st.blocks k ≡ some x.g
-  pub stamp : x.stamp ≡ stampOf st.blocks
+  pub stamp : x.stamp ≡ stamp_of st.blocks
 
 -- Why there is no plan, if the head gets the number f: a list is full; too few pages are left; the rule picks no block.
 pub data NoRoom (s : Sizes) (st : State) (lists : Bytes) (k : ℕ) (new : Bool) (f size len : ℕ) : Refusal → Type 0 where
   full : (s.e ≤ length (st.part k).names) ⊎ (s.e ≤ f) → NoRoom s st lists k new f size len W.ListFull
-  headless : length (st.part k).names < s.e → f < s.e → new ≡ true → headSpot s st lists k new size ≡ NoPage → NoRoom s st lists k new f size len W.NoPage
-  pageless : length (st.part k).names < s.e → f < s.e → (new ≡ true → IsSpot (headSpot s st lists k new size))
-      → mainSpot s st lists k new size len ≡ NoPage
+  headless : length (st.part k).names < s.e → f < s.e → new ≡ true → head_spot s st lists k new size ≡ NoPage → NoRoom s st lists k new f size len W.NoPage
+  pageless : length (st.part k).names < s.e → f < s.e → (new ≡ true → IsSpot (head_spot s st lists k new size))
+      → main_spot s st lists k new size len ≡ NoPage
       → NoRoom s st lists k new f size len W.NoPage
-  blockless : length (st.part k).names < s.e → f < s.e → (new ≡ true → IsSpot (headSpot s st lists k new size)) → IsSpot (mainSpot s st lists k new size len)
+  blockless : length (st.part k).names < s.e → f < s.e → (new ≡ true → IsSpot (head_spot s st lists k new size)) → IsSpot (main_spot s st lists k new size len)
       → pick s st.blocks k ≡ none
       → NoRoom s st lists k new f size len W.NoBlock
 

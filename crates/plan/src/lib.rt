@@ -2,7 +2,7 @@
 #![tactic(auto)]
 
 ghost use Rattle.std.specs.Prelude.{◌≤◌, ◌<◌, length};
-ghost use Rattle.layout.specs.Sizes.{InRange, kinds, pageSize, listBytes};
+ghost use Rattle.layout.specs.Sizes.{InRange, kinds, page_size, list_bytes};
 ghost use Rattle.plan.specs.Plans.{PlansHead, Plans};
 
 use bytes_buffer::Spot;
@@ -25,7 +25,7 @@ fn plan_head(
     untaken: usize,
     size: usize,
 ) -> HeadPlanned
-    requires { InRange s × (listBytes s ≤ length lists.now) × (k < kinds) × (size ≤ pageSize s) }
+    requires { InRange s × (list_bytes s ≤ length lists.now) × (k < kinds) × (size ≤ page_size s) }
     ensures { PlansHead s lists.now k newhead untaken size result }
 {
     if !newhead {
@@ -64,7 +64,7 @@ pub fn plan_name(
     size: usize,
     len: usize,
 ) -> Planned
-    requires { InRange s × (listBytes s ≤ length lists.now) × (k < kinds) × (size ≤ pageSize s) × (len ≤ pageSize s) }
+    requires { InRange s × (list_bytes s ≤ length lists.now) × (k < kinds) × (size ≤ page_size s) × (len ≤ page_size s) }
     ensures { Plans s lists.now k newhead f size len result }
 {
     match plan_room::check_room(lists, s, k, f) {

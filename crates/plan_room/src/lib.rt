@@ -3,8 +3,8 @@
 #![tactic(auto)]
 
 ghost use Rattle.std.specs.Prelude.{◌≡◌, ◌≤◌, ◌<◌, length};
-ghost use Rattle.layout.specs.Sizes.{InRange, kinds, listBytes};
-ghost use Rattle.plan_room.specs.Steps.{spotChecked, blockRefused, Stamps, Chooses, RoomIn};
+ghost use Rattle.layout.specs.Sizes.{InRange, kinds, list_bytes};
+ghost use Rattle.plan_room.specs.Steps.{spot_checked, block_refused, Stamps, Chooses, RoomIn};
 
 use blocks::{Allocated, LocalId};
 use bytes_buffer::{Lowest, Spot};
@@ -21,7 +21,7 @@ enum Stamp {
 
 // The next stamp: how many names there are of all kinds.
 fn next_stamp(lists: &[u8], s: Sizes) -> Stamp
-    requires { InRange s × (listBytes s ≤ length lists.now) }
+    requires { InRange s × (list_bytes s ≤ length lists.now) }
     ensures { Stamps s lists.now result }
 {
     let mut t = 0;
@@ -39,7 +39,7 @@ fn next_stamp(lists: &[u8], s: Sizes) -> Stamp
 
 // Whether an entry can be written at a spot.
 pub fn check_spot(spot: Spot) -> Checked
-    ensures { result ≡ spotChecked spot }
+    ensures { result ≡ spot_checked spot }
 {
     match spot {
         Spot::Current { page: _, offset: _ } => Checked::Legal,
@@ -58,7 +58,7 @@ pub enum Chosen {
 
 // The refusal where no block was found.
 fn refuse_block(allocated: Allocated) -> Chosen
-    ensures { result ≡ blockRefused allocated }
+    ensures { result ≡ block_refused allocated }
 {
     match allocated {
         Allocated::Block(_) => Chosen::Refused(Refusal::Unopened),
@@ -69,7 +69,7 @@ fn refuse_block(allocated: Allocated) -> Chosen
 
 // The block and the stamp of the kind k's name number n.
 pub fn choose_block(lists: &[u8], s: Sizes, k: usize, n: usize) -> Chosen
-    requires { InRange s × (listBytes s ≤ length lists.now) × (k < kinds) }
+    requires { InRange s × (list_bytes s ≤ length lists.now) × (k < kinds) }
     ensures { Chooses s lists.now k n result }
 {
     let allocated = blocks::allocate_block(lists, s, k, LocalId(n));
@@ -91,7 +91,7 @@ pub enum Room {
 
 // Looks whether the lists have room for a name of the kind k, and for a head with the number f.
 pub fn check_room(lists: &[u8], s: Sizes, k: usize, f: usize) -> Room
-    requires { InRange s × (listBytes s ≤ length lists.now) × (k < kinds) }
+    requires { InRange s × (list_bytes s ≤ length lists.now) × (k < kinds) }
     ensures { RoomIn s lists.now k f result }
 {
     let Counted::Entries(n) = bytes_dictionary::count(lists, s, kind_table::main_dictionary(k))

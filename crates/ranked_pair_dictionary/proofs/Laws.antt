@@ -15,7 +15,7 @@ use Rattle.slices.specs.Bytes.{Bytes}
 use Rattle.slices.proofs.Tests.{Split, split}
 use Rattle.refusals.specs.declared.Refusal.TheVariants.{ShortBuffer, HighNumber}
 use Rattle.ranked_pair_dictionary.specs.declared.FrequentId.TheVariants.{Value}
-use Rattle.ranked_pair_dictionary.specs.FrequentId.{be, ofBe, frequentId, furtherBytes, fid, writeRefusal, readFurther, readFidAnswer}
+use Rattle.ranked_pair_dictionary.specs.FrequentId.{be, of_be, frequent_id, further_bytes, fid, write_refusal, read_further, read_fid_answer}
 
 -- ---- the form, for every number n of further bytes
 
@@ -30,20 +30,20 @@ pub length-be : (n x : ℕ) → length (be n x) ≡ n
 length-be zero x = refl
 length-be (suc n) x = ap suc (length-be n x)
 
-pub length-frequentId : (n f : ℕ) → length (frequentId n f) ≡ n + 1
-unfolding frequentId
-length-frequentId n f = rw (add-one n, length-be n f)
+pub length-frequent_id : (n f : ℕ) → length (frequent_id n f) ≡ n + 1
+unfolding frequent_id
+length-frequent_id n f = rw (add-one n, length-be n f)
 
-of-be : (n x : ℕ) → ofBe (x / 256 ^ n) (be n x) ≡ x
+of-be : (n x : ℕ) → of_be (x / 256 ^ n) (be n x) ≡ x
 of-be zero x = div-one x
 of-be (suc n) x =
     let d : x / 256 ^ n / 256 ≡ x / 256 ^ suc n = rw pow-suc (div-div-eq-div-mul x (256 ^ n) 256) in
     let e : x / 256 ^ suc n * 256 + x / 256 ^ n % 256 ≡ x / 256 ^ n = omega arith in
-    ap (λ (v : ℕ). ofBe v (be n x)) e ∙ of-be n x
+    ap (λ (v : ℕ). of_be v (be n x)) e ∙ of-be n x
 
 -- Every length is read back by value, also one that is longer than needed.
-pub read-written : (n f : ℕ) (rest : Bytes) → f < 64 * 256 ^ n → readFidAnswer (frequentId n f ++ rest) ≡ Value f (n + 1)
-unfolding frequentId readFidAnswer readFurther
+pub read-written : (n f : ℕ) (rest : Bytes) → f < 64 * 256 ^ n → read_fid_answer (frequent_id n f ++ rest) ≡ Value f (n + 1)
+unfolding frequent_id read_fid_answer read_further
 read-written n f rest h =
     let t = top n f h in
     let p : (64 * n + f / 256 ^ n) / 64 ≡ n = omega arith in
@@ -53,38 +53,38 @@ read-written n f rest h =
 
 -- ---- as few further bytes as can be
 
-pub further-le : (f : ℕ) → furtherBytes f ≤ 3
-unfolding furtherBytes
+pub further-le : (f : ℕ) → further_bytes f ≤ 3
+unfolding further_bytes
 further-le f = go (split (ltb f (2 ^ 6))) (split (ltb f (2 ^ 14))) (split (ltb f (2 ^ 22)))
   where
-    go : Split (ltb f (2 ^ 6)) → Split (ltb f (2 ^ 14)) → Split (ltb f (2 ^ 22)) → furtherBytes f ≤ 3
+    go : Split (ltb f (2 ^ 6)) → Split (ltb f (2 ^ 14)) → Split (ltb f (2 ^ 22)) → further_bytes f ≤ 3
     go (inl p) q r = rw p (omega arith)
     go (inr p) (inl q) r = rw (p, q) (omega arith)
     go (inr p) (inr q) (inl r) = rw (p, q, r) (omega arith)
     go (inr p) (inr q) (inr r) = rw (p, q, r) (omega arith)
 
-pub fid-holds : (f : ℕ) → f < 2 ^ 30 → f < 64 * 256 ^ furtherBytes f
-unfolding furtherBytes
+pub fid-holds : (f : ℕ) → f < 2 ^ 30 → f < 64 * 256 ^ further_bytes f
+unfolding further_bytes
 fid-holds f h = go (split (ltb f (2 ^ 6))) (split (ltb f (2 ^ 14))) (split (ltb f (2 ^ 22)))
   where
-    go : Split (ltb f (2 ^ 6)) → Split (ltb f (2 ^ 14)) → Split (ltb f (2 ^ 22)) → f < 64 * 256 ^ furtherBytes f
+    go : Split (ltb f (2 ^ 6)) → Split (ltb f (2 ^ 14)) → Split (ltb f (2 ^ 22)) → f < 64 * 256 ^ further_bytes f
     go (inl p) q r = rw p (omega (arith, ltb-true))
     go (inr p) (inl q) r = rw (p, q) (omega (arith, ltb-true))
     go (inr p) (inr q) (inl r) = rw (p, q, r) (omega (arith, ltb-true))
     go (inr p) (inr q) (inr r) = rw (p, q, r) (omega arith)
 
 -- No fewer further bytes hold f.
-pub fid-least : (f n : ℕ) → f < 64 * 256 ^ n → furtherBytes f ≤ n
-unfolding furtherBytes
+pub fid-least : (f n : ℕ) → f < 64 * 256 ^ n → further_bytes f ≤ n
+unfolding further_bytes
 fid-least f zero h = rw (lt-ltb f (2 ^ 6) (omega arith)) (omega arith)
 fid-least f (suc zero) h = go (split (ltb f (2 ^ 6)))
   where
-    go : Split (ltb f (2 ^ 6)) → furtherBytes f ≤ 1
+    go : Split (ltb f (2 ^ 6)) → further_bytes f ≤ 1
     go (inl p) = rw p (omega arith)
     go (inr p) = rw (p, lt-ltb f (2 ^ 14) (omega arith)) (omega arith)
 fid-least f (suc (suc zero)) h = go (split (ltb f (2 ^ 6))) (split (ltb f (2 ^ 14)))
   where
-    go : Split (ltb f (2 ^ 6)) → Split (ltb f (2 ^ 14)) → furtherBytes f ≤ 2
+    go : Split (ltb f (2 ^ 6)) → Split (ltb f (2 ^ 14)) → further_bytes f ≤ 2
     go (inl p) q = rw p (omega arith)
     go (inr p) (inl q) = rw (p, q) (omega arith)
     go (inr p) (inr q) = rw (p, q, lt-ltb f (2 ^ 22) (omega arith)) (omega arith)
@@ -92,31 +92,31 @@ fid-least f (suc (suc (suc n))) h = omega (arith, further-le f)
 
 -- ---- the frequent id that is written
 
-pub length-fid : (f : ℕ) → length (fid f) ≡ furtherBytes f + 1
+pub length-fid : (f : ℕ) → length (fid f) ≡ further_bytes f + 1
 unfolding fid
-length-fid f = length-frequentId (furtherBytes f) f
+length-fid f = length-frequent_id (further_bytes f) f
 
-pub fid-read : (f : ℕ) (rest : Bytes) → f < 2 ^ 30 → readFidAnswer (fid f ++ rest) ≡ Value f (length (fid f))
+pub fid-read : (f : ℕ) (rest : Bytes) → f < 2 ^ 30 → read_fid_answer (fid f ++ rest) ≡ Value f (length (fid f))
 unfolding fid
-fid-read f rest h = read-written (furtherBytes f) f rest (fid-holds f h) ∙ ap (λ (n : ℕ). Value f n) (sym (length-fid f))
+fid-read f rest h = read-written (further_bytes f) f rest (fid-holds f h) ∙ ap (λ (n : ℕ). Value f n) (sym (length-fid f))
 
 -- If two frequent ids with their rests are equal bytes, the numbers are equal, and so are the rests.
 pub fid-same : (f g : ℕ) (r s : Bytes) → f < 2 ^ 30 → g < 2 ^ 30 → fid f ++ r ≡ fid g ++ s → (f ≡ g) × (r ≡ s)
 fid-same f g r s hf hg e =
-    let v : Value f (length (fid f)) ≡ Value g (length (fid g)) = sym (fid-read f r hf) ∙ ap readFidAnswer e ∙ fid-read g s hg in
+    let v : Value f (length (fid f)) ≡ Value g (length (fid g)) = sym (fid-read f r hf) ∙ ap read_fid_answer e ∙ fid-read g s hg in
     let p : f ≡ g = cc in
     (p, cc (drop-append_seam (fid f) r, drop-append_seam (fid g) s))
 
 -- ---- when the writing is refused
 
-pub write-high : (value room : ℕ) → 2 ^ 30 ≤ value → writeRefusal value room ≡ some HighNumber
-unfolding writeRefusal
+pub write-high : (value room : ℕ) → 2 ^ 30 ≤ value → write_refusal value room ≡ some HighNumber
+unfolding write_refusal
 write-high value room h = rw (le-leb (2 ^ 30) value h)
 
-pub write-short : (value room : ℕ) → value < 2 ^ 30 → room ≤ furtherBytes value → writeRefusal value room ≡ some ShortBuffer
-unfolding writeRefusal
-write-short value room h k = rw (lt-leb (2 ^ 30) value h, length-fid value, lt-ltb room (furtherBytes value + 1) (omega arith))
+pub write-short : (value room : ℕ) → value < 2 ^ 30 → room ≤ further_bytes value → write_refusal value room ≡ some ShortBuffer
+unfolding write_refusal
+write-short value room h k = rw (lt-leb (2 ^ 30) value h, length-fid value, lt-ltb room (further_bytes value + 1) (omega arith))
 
-pub write_done : (value room : ℕ) → value < 2 ^ 30 → furtherBytes value < room → writeRefusal value room ≡ none
-unfolding writeRefusal
-write_done value room h k = rw (lt-leb (2 ^ 30) value h, length-fid value, le-ltb room (furtherBytes value + 1) (omega arith))
+pub write_done : (value room : ℕ) → value < 2 ^ 30 → further_bytes value < room → write_refusal value room ≡ none
+unfolding write_refusal
+write_done value room h k = rw (lt-leb (2 ^ 30) value h, length-fid value, le-ltb room (further_bytes value + 1) (omega arith))

@@ -5,7 +5,7 @@ use Rattle.slices.specs.Bytes.{Bytes}
 use Rattle.refusals.specs.declared.Refusal.{Refusal}
 use Rattle.refusals.specs.declared.Refusal.TheVariants.{ShortBuffer, HighNumber, CutForm}
 use Rattle.refusals.specs.declared.Written.{Written}
-use Rattle.refusals.specs.Written.{written_by, placedBy}
+use Rattle.refusals.specs.Written.{written_by, placed_by}
 use Rattle.ranked_pair_dictionary.specs.declared.Lead.{Lead}
 use Rattle.ranked_pair_dictionary.specs.declared.FrequentId.{FrequentId}
 use Rattle.ranked_pair_dictionary.specs.declared.FrequentId.TheVariants.{Value, Refused}
@@ -16,47 +16,47 @@ be zero x = []
 be (suc n) x = x / 256 ^ n % 256 ∷ be n x
 
 -- The number v with further bytes behind it, big endian.
-abbrev pub ofBe : ℕ → Bytes → ℕ
-ofBe v [] = v
-ofBe v (b ∷ s) = ofBe (v * 256 + b) s
+abbrev pub of_be : ℕ → Bytes → ℕ
+of_be v [] = v
+of_be v (b ∷ s) = of_be (v * 256 + b) s
 
 -- f with n further bytes: the two top bits of the first byte are n.
-unfoldable pub frequentId : ℕ → ℕ → Bytes
-frequentId n f = (64 * n + f / 256 ^ n) ∷ be n f
+unfoldable pub frequent_id : ℕ → ℕ → Bytes
+frequent_id n f = (64 * n + f / 256 ^ n) ∷ be n f
 
 -- The fewest further bytes that can hold f.
-unfoldable pub furtherBytes : ℕ → ℕ
-furtherBytes f = cond (ltb f (2 ^ 6)) 0 (cond (ltb f (2 ^ 14)) 1 (cond (ltb f (2 ^ 22)) 2 3))
+unfoldable pub further_bytes : ℕ → ℕ
+further_bytes f = cond (ltb f (2 ^ 6)) 0 (cond (ltb f (2 ^ 14)) 1 (cond (ltb f (2 ^ 22)) 2 3))
 
 -- Document 01: a lead.
 unfoldable pub fid : ℕ → Bytes
-fid f = frequentId (furtherBytes f) f
+fid f = frequent_id (further_bytes f) f
 
 -- The bytes of a frequent id that is held by value.
-abbrev pub leadBytes : Lead → Bytes
-leadBytes x = take x.len x.bytes
+abbrev pub lead_bytes : Lead → Bytes
+lead_bytes x = take x.len x.bytes
 
 -- ---- writing, into a buffer of `room` bytes
 
 -- A value of 2^30 or more has no form. A form must fit the buffer.
-unfoldable pub writeRefusal : ℕ → ℕ → Option Refusal
-writeRefusal value room = cond (leb (2 ^ 30) value) (some HighNumber) (cond (ltb room (length (fid value))) (some ShortBuffer) none)
+unfoldable pub write_refusal : ℕ → ℕ → Option Refusal
+write_refusal value room = cond (leb (2 ^ 30) value) (some HighNumber) (cond (ltb room (length (fid value))) (some ShortBuffer) none)
 
 -- The length written, or the refusal.
-unfoldable pub writeFidAnswer : ℕ → ℕ → Written
-writeFidAnswer value room = written_by (fid value) (writeRefusal value room)
+unfoldable pub write_fid_answer : ℕ → ℕ → Written
+write_fid_answer value room = written_by (fid value) (write_refusal value room)
 
 -- The form at the buffer's start, the rest untouched. If the writing is refused, all bytes are as found.
-unfoldable pub writeFidBuffer : ℕ → Bytes → Bytes
-writeFidBuffer value buffer = placedBy (fid value) buffer (writeRefusal value (length buffer))
+unfoldable pub write_fid_buffer : ℕ → Bytes → Bytes
+write_fid_buffer value buffer = placed_by (fid value) buffer (write_refusal value (length buffer))
 
 -- ---- reading, from the front
 
 -- Reads n further bytes from s; v is the value in the first byte. Cut if s has fewer than n.
-unfoldable pub readFurther : ℕ → ℕ → Bytes → FrequentId
-readFurther n v s = cond (leb n (length s)) (Value (ofBe v (take n s)) (n + 1)) (Refused CutForm)
+unfoldable pub read_further : ℕ → ℕ → Bytes → FrequentId
+read_further n v s = cond (leb n (length s)) (Value (of_be v (take n s)) (n + 1)) (Refused CutForm)
 
 -- The value and the length; what follows is not looked at.
-unfoldable pub readFidAnswer : Bytes → FrequentId
-readFidAnswer [] = Refused CutForm
-readFidAnswer (b ∷ s) = readFurther (b / 64) (b % 64) s
+unfoldable pub read_fid_answer : Bytes → FrequentId
+read_fid_answer [] = Refused CutForm
+read_fid_answer (b ∷ s) = read_further (b / 64) (b % 64) s

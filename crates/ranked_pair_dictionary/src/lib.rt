@@ -2,7 +2,7 @@
 #![tactic(auto)]
 
 ghost use Rattle.std.specs.Prelude.{◌≡◌, ◌++◌, ◌^◌, ◌≤◌, ◌<◌, length, drop};
-ghost use Rattle.ranked_pair_dictionary.specs.FrequentId.{furtherBytes, fid, leadBytes, writeFidAnswer, writeFidBuffer, readFidAnswer};
+ghost use Rattle.ranked_pair_dictionary.specs.FrequentId.{further_bytes, fid, lead_bytes, write_fid_answer, write_fid_buffer, read_fid_answer};
 
 use refusals::{Refusal, Written};
 
@@ -14,7 +14,7 @@ pub enum FrequentId {
 
 // How many bytes follow the first one.
 pub fn further_bytes(value: usize) -> usize
-    ensures { (result ≡ furtherBytes value) × (result ≤ 3) }
+    ensures { (result ≡ further_bytes value) × (result ≤ 3) }
 {
     if value < 64 {
         return 0;
@@ -48,7 +48,7 @@ fn put_frequent_id(value: usize, buffer: &mut [u8]) -> usize
 
 // Every refusal is decided before a byte is written.
 pub fn write_frequent_id(value: usize, buffer: &mut [u8]) -> Written
-    ensures { (result ≡ writeFidAnswer value (length buffer.old)) × (buffer.new ≡ writeFidBuffer value buffer.old) }
+    ensures { (result ≡ write_fid_answer value (length buffer.old)) × (buffer.new ≡ write_fid_buffer value buffer.old) }
 {
     if 1073741824 <= value {
         return Written::Refused(Refusal::HighNumber);
@@ -69,7 +69,7 @@ pub struct Lead {
 // The frequent id of a number that has one.
 pub fn lead_of(value: usize) -> Lead
     requires { value < 2 ^ 30 }
-    ensures { (leadBytes result ≡ fid value) × (result.len ≤ 4) × (result.len ≤ length result.bytes) }
+    ensures { (lead_bytes result ≡ fid value) × (result.len ≤ 4) × (result.len ≤ length result.bytes) }
 {
     let mut bytes = [0u8; 4];
     let len = put_frequent_id(value, &mut bytes);
@@ -78,7 +78,7 @@ pub fn lead_of(value: usize) -> Lead
 
 // The value and the length of the frequent id in front; what follows it is not looked at.
 pub fn read_frequent_id(bytes: &[u8]) -> FrequentId
-    ensures { result ≡ readFidAnswer bytes.now }
+    ensures { result ≡ read_fid_answer bytes.now }
 {
     if bytes.len() == 0 {
         return FrequentId::Refused(Refusal::CutForm);

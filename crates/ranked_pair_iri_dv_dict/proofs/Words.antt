@@ -5,14 +5,14 @@ use mathlib.Core.Logic.{inl, inr}
 use mathlib.Core.Bool.{false}
 use native.Mathlib.Omega.{arith}
 use lib.Bits.{bit_and, and_block, and_le_r}
-use lib.Dec.{eqb, ltb}
+use lib.Dec.{eqb}
 use lib.ListN.{length, get_or, take}
 use lib.Seq.{take-length}
-use borrow.Author.Tests.{eqb-true, eqb-false, ltb-true, ltb-false}
+use borrow.Author.Tests.{eqb-true, eqb-false}
 use Rattle.slices.specs.Bytes.{Bytes}
 use Rattle.slices.proofs.Tests.{Split, split}
-use Rattle.words.specs.Words.{leAt}
-use Rattle.ranked_pair_iri_dv_dict.specs.Split.{isMark, Unmarked, headLength}
+use Rattle.words.specs.Words.{le_at}
+use Rattle.ranked_pair_iri_dv_dict.specs.Split.{is_mark, Unmarked, head_length}
 use Rattle.ranked_pair_iri_dv_dict.proofs.Laws.{head-snoc}
 
 -- ---- the masks
@@ -42,35 +42,35 @@ tops-more n x w h =
     )
 
 -- A byte with its top set is no mark, which has none of the bits.
-no-mark : (x : ℕ) → tops 1 x ≡ 0x80 → isMark x ≡ false
+no-mark : (x : ℕ) → tops 1 x ≡ 0x80 → is_mark x ≡ false
 no-mark x t = go (split (eqb x 47)) (split (eqb x 35))
   where
-    go : Split (eqb x 47) → Split (eqb x 35) → isMark x ≡ false
+    go : Split (eqb x 47) → Split (eqb x 35) → is_mark x ≡ false
     go (inl p) q = let z : ◌≡◌ {A = ℕ} 0 0x80 = rw (eqb-true x 47 p) at t in absurd (omega arith)
     go (inr p) (inl q) = let z : ◌≡◌ {A = ℕ} 0 0x80 = rw (eqb-true x 35 q) at t in absurd (omega arith)
     go (inr p) (inr q) = rw (p, q) refl
 
 -- All tops set in a word of n bytes: none of them is a mark.
-pub no-marks : (n : ℕ) (s : Bytes) (b : ℕ) → ((k : ℕ) → get_or s k 0 < 256) → tops n (leAt n s b) ≡ each n 0x80
+pub no-marks : (n : ℕ) (s : Bytes) (b : ℕ) → ((k : ℕ) → get_or s k 0 < 256) → tops n (le_at n s b) ≡ each n 0x80
     → Unmarked s b (b + n)
-unfolding leAt
+unfolding le_at
 no-marks zero s b h e i u v = absurd (omega arith)
 no-marks (suc n) s b h e i u v =
     let x : ℕ = get_or s b 0 in
-    let w : ℕ = leAt n s (suc b) in
+    let w : ℕ = le_at n s (suc b) in
     let t : tops n w * 256 + tops 1 x ≡ each n 0x80 * 256 + 0x80 = sym (tops-more n x w (h b)) ∙ e in
     let l : tops 1 x ≤ 0x80 = and_le_r (bit_and x 0x50 + 0x7F) 0x80 in
     go (split (eqb b i)) (no-mark x (omega arith)) (λ f. no-marks n s (suc b) h (omega arith) i f (omega arith))
   where
-    go : Split (eqb b i) → isMark (get_or s b 0) ≡ false → (suc b ≤ i → isMark (get_or s i 0) ≡ false) → isMark (get_or s i 0) ≡ false
+    go : Split (eqb b i) → is_mark (get_or s b 0) ≡ false → (suc b ≤ i → is_mark (get_or s i 0) ≡ false) → is_mark (get_or s i 0) ≡ false
     go (inl q) p ih = rw (← eqb-true b i q) p
     go (inr q) p ih = ih (omega (arith, eqb-false b i q))
 
 -- ---- passing
 
 -- The last n bytes have no part in the head if none of them is a mark.
-pub unmarked-head : (n r : ℕ) (s : Bytes) → r + n ≡ length s → Unmarked s r (length s) → headLength (take r s) ≡ headLength s
-unmarked-head zero r s e u = let p : r ≡ length s = omega arith in rw p (ap headLength (take-length s))
+pub unmarked-head : (n r : ℕ) (s : Bytes) → r + n ≡ length s → Unmarked s r (length s) → head_length (take r s) ≡ head_length s
+unmarked-head zero r s e u = let p : r ≡ length s = omega arith in rw p (ap head_length (take-length s))
 unmarked-head (suc n) r s e u =
-    let p : headLength (take (suc r) s) ≡ headLength (take r s) = head-snoc s r (omega arith) ∙ rw (u r (omega arith) (omega arith)) refl in
+    let p : head_length (take (suc r) s) ≡ head_length (take r s) = head-snoc s r (omega arith) ∙ rw (u r (omega arith) (omega arith)) refl in
     sym p ∙ unmarked-head n (suc r) s (omega arith) (λ i a b. u i (omega arith) b)

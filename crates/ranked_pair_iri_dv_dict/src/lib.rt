@@ -2,7 +2,7 @@
 #![tactic(auto)]
 
 ghost use Rattle.std.specs.Prelude.{◌≡◌, true, ◌+◌, ◌≤◌, length};
-ghost use Rattle.ranked_pair_iri_dv_dict.specs.Split.{isMark, Unmarked, head_of};
+ghost use Rattle.ranked_pair_iri_dv_dict.specs.Split.{is_mark, Unmarked, head_of};
 
 use words::TOP_BITS;
 
@@ -13,7 +13,7 @@ pub enum Head {
 }
 
 fn is_mark(byte: u8) -> bool
-    ensures { result ≡ isMark byte }
+    ensures { result ≡ is_mark byte }
 {
     byte == b'/' || byte == b'#'
 }

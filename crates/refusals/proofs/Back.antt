@@ -4,10 +4,10 @@ use mathlib.Core.Bool.{false}
 use lib.Dec.{eqb}
 use Rattle.refusals.specs.declared.Refusal.{Refusal}
 use Rattle.refusals.specs.declared.Refusal.TheVariants.{BadSize, ShortMemory, Unopened, BadKind, TooLong, NotText, NoTag, ListFull, NoPage, NoBlock, ShortBuffer, HighNumber, CutForm}
-use Rattle.refusals.specs.Numbers.{refusalNumber, refusalOf}
+use Rattle.refusals.specs.Numbers.{refusal_number, refusal_of}
 
 -- A refusal by its number, and no refusal has the number 0.
-pub refusal-back : (why : Refusal) → (refusalOf (refusalNumber why) ≡ why) × (eqb (refusalNumber why) 0 ≡ false)
+pub refusal-back : (why : Refusal) → (refusal_of (refusal_number why) ≡ why) × (eqb (refusal_number why) 0 ≡ false)
 refusal-back BadSize = (refl, refl)
 refusal-back ShortMemory = (refl, refl)
 refusal-back Unopened = (refl, refl)

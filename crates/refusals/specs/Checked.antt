@@ -4,6 +4,6 @@ use Rattle.refusals.specs.declared.Refusal.{Refusal}
 use Rattle.refusals.specs.declared.Checked.{Checked}
 use Rattle.refusals.specs.declared.Checked.TheVariants.{Legal, Illegal}
 
-abbrev pub checkedBy : Option Refusal → Checked
-checkedBy none = Legal
-checkedBy (some why) = Illegal why
+abbrev pub checked_by : Option Refusal → Checked
+checked_by none = Legal
+checked_by (some why) = Illegal why

@@ -3,23 +3,23 @@ use Rattle.std.specs.Prelude.{ℕ, cond, eqb}
 use Rattle.refusals.specs.declared.Refusal.{Refusal}
 use Rattle.refusals.specs.declared.Refusal.TheVariants.{BadSize, ShortMemory, Unopened, BadKind, TooLong, NotText, NoTag, ListFull, NoPage, NoBlock, ShortBuffer, HighNumber, CutForm}
 
-abbrev pub refusalNumber : Refusal → ℕ
-refusalNumber BadSize = 1
-refusalNumber ShortMemory = 2
-refusalNumber Unopened = 3
-refusalNumber BadKind = 4
-refusalNumber TooLong = 5
-refusalNumber NotText = 6
-refusalNumber NoTag = 7
-refusalNumber ListFull = 8
-refusalNumber NoPage = 9
-refusalNumber NoBlock = 10
-refusalNumber ShortBuffer = 11
-refusalNumber HighNumber = 12
-refusalNumber CutForm = 13
+abbrev pub refusal_number : Refusal → ℕ
+refusal_number BadSize = 1
+refusal_number ShortMemory = 2
+refusal_number Unopened = 3
+refusal_number BadKind = 4
+refusal_number TooLong = 5
+refusal_number NotText = 6
+refusal_number NoTag = 7
+refusal_number ListFull = 8
+refusal_number NoPage = 9
+refusal_number NoBlock = 10
+refusal_number ShortBuffer = 11
+refusal_number HighNumber = 12
+refusal_number CutForm = 13
 
-abbrev pub refusalOf : ℕ → Refusal
-refusalOf n =
+abbrev pub refusal_of : ℕ → Refusal
+refusal_of n =
     cond (eqb n 1) BadSize
     (cond (eqb n 2) ShortMemory
     (cond (eqb n 3) Unopened

@@ -12,6 +12,6 @@ written_by form none = Length (length form)
 written_by form (some why) = Refused why
 
 -- The buffer afterwards: the form at its start and the rest as found. With a refusal all bytes are as found.
-abbrev pub placedBy : Bytes → Bytes → Option Refusal → Bytes
-placedBy form buffer none = form ++ drop (length form) buffer
-placedBy form buffer (some why) = buffer
+abbrev pub placed_by : Bytes → Bytes → Option Refusal → Bytes
+placed_by form buffer none = form ++ drop (length form) buffer
+placed_by form buffer (some why) = buffer

@@ -2,7 +2,7 @@
 #![tactic(auto)]
 
 ghost use Rattle.std.specs.Prelude.{◌≡◌};
-ghost use Rattle.refusals.specs.Numbers.{refusalNumber};
+ghost use Rattle.refusals.specs.Numbers.{refusal_number};
 
 #[derive(Clone, Copy)]
 pub enum Refusal {
@@ -36,7 +36,7 @@ pub enum Written {
 }
 
 pub fn number(why: Refusal) -> u64
-    ensures { result ≡ refusalNumber why }
+    ensures { result ≡ refusal_number why }
 {
     match why {
         Refusal::BadSize => 1,

@@ -10,26 +10,26 @@ use Rattle.memory.specs.Lists.{Memory, InTurn, Bringing}
 use Rattle.numbers.specs.declared.NamedictNumbered.{NamedictNumbered}
 use Rattle.numbers.specs.declared.NamedictName.{NamedictName}
 use Rattle.numbers.specs.declared.NamedictCounted.{NamedictCounted}
-use Rattle.numbers.specs.Numbers.{openNumber, addNumbers, findNumbers, nameNumbers, countNumbers}
-use Rattle.numbers.specs.Answers.{addOf, findOf, read_of, count_of}
+use Rattle.numbers.specs.Numbers.{open_number, add_numbers, find_numbers, name_numbers, count_numbers}
+use Rattle.numbers.specs.Answers.{add_of, find_of, read_of, count_of}
 
 -- ---- one call: there is an answer, the numbers returned are its numbers, and the entry's promise holds of it
 
 abbrev pub OpenReturned : Sizes → Bytes → Bytes → ℕ → Bytes → Bytes → Type 0
-OpenReturned s pages lists r pages' lists' = (x : OpenAnswer) × (r ≡ openNumber x) × OpenPost s pages lists x pages' lists'
+OpenReturned s pages lists r pages' lists' = (x : OpenAnswer) × (r ≡ open_number x) × OpenPost s pages lists x pages' lists'
 
 abbrev pub AddReturned : Bytes → Bytes → Name → NamedictNumbered → Bytes → Bytes → Type 0
-AddReturned pages lists a r pages' lists' = (x : AddAnswer) × (r ≡ addNumbers x) × AddPost pages lists a x pages' lists'
+AddReturned pages lists a r pages' lists' = (x : AddAnswer) × (r ≡ add_numbers x) × AddPost pages lists a x pages' lists'
 
 abbrev pub FindReturned : Bytes → Bytes → Name → NamedictNumbered → Bytes → Bytes → Type 0
-FindReturned pages lists a r pages' lists' = (x : FindAnswer) × (r ≡ findNumbers x) × FindPost pages lists a x pages' lists'
+FindReturned pages lists a r pages' lists' = (x : FindAnswer) × (r ≡ find_numbers x) × FindPost pages lists a x pages' lists'
 
 -- The buffer was b and is c.
 abbrev pub ReadReturned : Bytes → Bytes → ℕ → Bytes → NamedictName → Bytes → Bytes → Bytes → Type 0
-ReadReturned pages lists n b r c pages' lists' = (x : ReadAnswer) × (r ≡ nameNumbers x) × ReadPost pages lists n b x c pages' lists'
+ReadReturned pages lists n b r c pages' lists' = (x : ReadAnswer) × (r ≡ name_numbers x) × ReadPost pages lists n b x c pages' lists'
 
 abbrev pub CountReturned : Bytes → Bytes → ℕ → NamedictCounted → Bytes → Bytes → Type 0
-CountReturned pages lists k r pages' lists' = (x : CountAnswer) × (r ≡ countNumbers x) × CountPost pages lists k x pages' lists'
+CountReturned pages lists k r pages' lists' = (x : CountAnswer) × (r ≡ count_numbers x) × CountPost pages lists k x pages' lists'
 
 -- ---- lists of calls
 
@@ -59,15 +59,15 @@ abbrev pub ExportedBrought : Sizes → Memory → List Returned → Memory → T
 ExportedBrought s m es z = InTurn (ExportedBrings s) m es z
 
 -- The refusal that a call returned, 0 if it was accepted.
-abbrev pub refusalIn : Returned → ℕ
-refusalIn (add a r) = r.refusal
-refusalIn (find a r) = r.refusal
-refusalIn (read n b r c) = r.refusal
-refusalIn (count k r) = r.refusal
+abbrev pub refusal_in : Returned → ℕ
+refusal_in (add a r) = r.refusal
+refusal_in (find a r) = r.refusal
+refusal_in (read n b r c) = r.refusal
+refusal_in (count k r) = r.refusal
 
 -- The call with the answer that its numbers tell.
-abbrev pub eventOf : Returned → Event
-eventOf (add a r) = Event.add a (addOf r)
-eventOf (find a r) = Event.find a (findOf r)
-eventOf (read n b r c) = Event.read n b (read_of r) c
-eventOf (count k r) = Event.count k (count_of r)
+abbrev pub event_of : Returned → Event
+event_of (add a r) = Event.add a (add_of r)
+event_of (find a r) = Event.find a (find_of r)
+event_of (read n b r c) = Event.read n b (read_of r) c
+event_of (count k r) = Event.count k (count_of r)

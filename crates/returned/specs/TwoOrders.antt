@@ -8,7 +8,7 @@ use Rattle.memory.specs.Lists.{Memory}
 use Rattle.two_lists.specs.Orders.{fresh_of, TwoOrders}
 use Rattle.numbers.specs.declared.NamedictCounted.{NamedictCounted}
 use Rattle.returned.specs.Returned.{OpenReturned, Returned, add, find, read, count, ExportedBrings, ExportedBrought}
-use Rattle.returned.specs.Demand3.{effectsIn}
+use Rattle.returned.specs.Demand3.{effects_in}
 
 -- "For two freshly opened books": an open of the sizes s returned 0, then came the calls es, and they left z.
 pub record FromOpen (s : Sizes) (es : List Returned) (z : Memory) : Type 0 where
@@ -41,7 +41,7 @@ SameAdds xs ys = (a : Name) → Adds a xs ↔ Adds a ys
 -- What the calls xs and ys then have in common. They left y and z.
 pub record TwoOrdersInNumbers (s t : Sizes) (xs ys : List Returned) (y z : Memory) : Type 1 where
   -- the local numbers, and just one pairing,
-  pub orders : TwoOrders s t (effectsIn xs) (effectsIn ys)
+  pub orders : TwoOrders s t (effects_in xs) (effects_in ys)
   -- "each kind has equal counts": a count after either list returns how many names of the kind were fresh.
   pub counted : (k : ℕ) (r q : NamedictCounted) (y' z' : Memory) → ExportedBrings s y (count k r) y' → ExportedBrings t z (count k q) z' → k < kinds
-      → (r ≡ record { refusal = 0; count = fresh_of k (effectsIn xs) }) × (q ≡ r)
+      → (r ≡ record { refusal = 0; count = fresh_of k (effects_in xs) }) × (q ≡ r)

@@ -13,9 +13,9 @@ use Rattle.bytes_index.specs.declared.Probe.TheVariants as P
 use Rattle.bytes_index.specs.Search.{Searched}
 use Rattle.model.specs.Names.{Name}
 use Rattle.model.specs.Kinds.{row}
-use Rattle.model.specs.State.{State, localOf, entryNumber}
-use Rattle.model.specs.Steps.{checks, nameHead, newHead, keyOf}
-use Rattle.model.specs.Keys.{keys_of, lookedUp}
+use Rattle.model.specs.State.{State, local_of, entry_number}
+use Rattle.model.specs.Steps.{checks, name_head, new_head, key_of}
+use Rattle.model.specs.Keys.{keys_of, looked_up}
 use Rattle.model.proofs.Keys.{looked-up}
 use Rattle.model.proofs.Legal.{legal-kind}
 use Rattle.memory.specs.Stands.{Stands}
@@ -24,11 +24,11 @@ use Rattle.search.specs.declared.Place.TheVariants.{Key, Head}
 use Rattle.search.specs.declared.Search.{Search}
 use Rattle.search.specs.declared.Search.TheVariants.{Found, Missing, Bad}
 use Rattle.search.specs.declared.Sought.{Sought}
-use Rattle.search.specs.Found.{Tells, EndsKey, keyBehind, KeyEnded, HeadEnded, EndedBy}
+use Rattle.search.specs.Found.{Tells, EndsKey, key_behind, KeyEnded, HeadEnded, EndedBy}
 
 -- The search for a key, as a part of the search for a name.
 pub key-ends : (s : Sizes) (pages lists : Bytes) (k : ℕ) (head rest : Bytes) (x : Sought) (key : Bytes) (r : Search) → EndsKey s pages lists k key r
-    → ((p : Probe) → Searched s (row k).mainAt pages lists key p → KeyEnded s pages lists k head rest x p)
+    → ((p : Probe) → Searched s (row k).main_at pages lists key p → KeyEnded s pages lists k head rest x p)
     → EndedBy s pages lists k head rest x r
 key-ends s pages lists k head rest x key (Found i) e f = f (P.At i.0) e
 key-ends s pages lists k head rest x key (Missing (Key j)) e f = f (P.Free j) e
@@ -43,31 +43,31 @@ module _ {s : Sizes} {st : State} {pages lists : Bytes} (S : Stands s st pages l
 
   -- The key that was searched is the name's own.
   pub own_key : (r : Probe) (K : KeyEnded s pages lists a.kind ((row a.kind).head a) ((row a.kind).rest a) x r)
-      → (newHead a (st.part a.kind) ≡ false) × (keyOf (st.part a.kind).heads a ≡ keyBehind a.kind K.f ((row a.kind).rest a))
+      → (new_head a (st.part a.kind) ≡ false) × (key_of (st.part a.kind).heads a ≡ key_behind a.kind K.f ((row a.kind).rest a))
   own_key r K = go (split (row a.kind).paired)
     where
-      go : Split (row a.kind).paired → (newHead a (st.part a.kind) ≡ false) × (keyOf (st.part a.kind).heads a ≡ keyBehind a.kind K.f ((row a.kind).rest a))
+      go : Split (row a.kind).paired → (new_head a (st.part a.kind) ≡ false) × (key_of (st.part a.kind).heads a ≡ key_behind a.kind K.f ((row a.kind).rest a))
       go (inl p) =
-          let e : entryNumber (nameHead a) (st.part a.kind).heads ≡ some K.f = head_at s st pages lists S a.kind known (nameHead a) p K.f (K.behind p).0 in
+          let e : entry_number (name_head a) (st.part a.kind).heads ≡ some K.f = head_at s st pages lists S a.kind known (name_head a) p K.f (K.behind p).0 in
           rw (p, e) (refl, refl)
       go (inr p) = rw p (refl, refl)
 
   -- A head that was not found is a new one.
-  pub own_new : (j : ℕ) → HeadEnded s pages lists a.kind ((row a.kind).head a) x (P.Free j) → newHead a (st.part a.kind) ≡ true
-  own_new j H = rw (H.paired, head-free s st pages lists S a.kind known (nameHead a) H.paired j H.searched)
+  pub own_new : (j : ℕ) → HeadEnded s pages lists a.kind ((row a.kind).head a) x (P.Free j) → new_head a (st.part a.kind) ≡ true
+  own_new j H = rw (H.paired, head-free s st pages lists S a.kind known (name_head a) H.paired j H.searched)
 
-  by-dictionaries : localOf a (st.part a.kind).names ≡ lookedUp a (st.part a.kind)
+  by-dictionaries : local_of a (st.part a.kind).names ≡ looked_up a (st.part a.kind)
   by-dictionaries = looked-up s S.good.sizes a _ _ (st.part a.kind) (S.good.part a.kind) legal
 
   -- So its local number is that of the key.
   by_key : (r : Probe) (K : KeyEnded s pages lists a.kind ((row a.kind).head a) ((row a.kind).rest a) x r)
-      → localOf a (st.part a.kind).names
-      ≡ entryNumber (keyBehind a.kind K.f ((row a.kind).rest a)) (keys_of (st.part a.kind).heads (st.part a.kind).names)
+      → local_of a (st.part a.kind).names
+      ≡ entry_number (key_behind a.kind K.f ((row a.kind).rest a)) (keys_of (st.part a.kind).heads (st.part a.kind).names)
   by_key r K = let o = own_key r K in by-dictionaries ∙ rw (o.0, o.1)
 
-  pub tells : (r : Search) → EndedBy s pages lists a.kind ((row a.kind).head a) ((row a.kind).rest a) x r → Tells r (localOf a (st.part a.kind).names)
+  pub tells : (r : Search) → EndedBy s pages lists a.kind ((row a.kind).head a) ((row a.kind).rest a) x r → Tells r (local_of a (st.part a.kind).names)
   tells (Found i) K = by_key _ K ∙ main-at s st pages lists S a.kind known _ i.0 K.searched
   tells (Missing (Key j)) K = by_key _ K ∙ main-free s st pages lists S a.kind known _ j K.searched
   tells (Missing (Head j)) H = by-dictionaries ∙ rw (own_new j H)
-  tells Bad (inl H) = head-bad s st pages lists S a.kind known (nameHead a) H.paired H.searched
+  tells Bad (inl H) = head-bad s st pages lists S a.kind known (name_head a) H.paired H.searched
   tells Bad (inr K) = main-bad s st pages lists S a.kind known _ K.searched

@@ -2,9 +2,9 @@
 use Rattle.std.specs.Prelude.{ℕ, ◌≤◌, ◌≡◌, ◌⊎◌, true, cond, ◌++◌, length}
 use Rattle.std.proofs.Math.Option.{Option, none, some}
 use Rattle.slices.specs.Bytes.{Bytes}
-use Rattle.fnv.specs.Fnv.{fnvOf}
+use Rattle.fnv.specs.Fnv.{fnv_of}
 use Rattle.layout.specs.declared.Sizes.{Sizes}
-use Rattle.ranked_pair_dictionary.specs.FrequentId.{fid, leadBytes}
+use Rattle.ranked_pair_dictionary.specs.FrequentId.{fid, lead_bytes}
 use Rattle.bytes_index.specs.declared.Probe.{Probe}
 use Rattle.bytes_index.specs.declared.Probe.TheVariants as P
 use Rattle.bytes_index.specs.Search.{Searched}
@@ -28,27 +28,27 @@ Tells Bad o = ⊥
 
 -- The search for a key among the kind k's main entries.
 abbrev pub EndsKey : Sizes → Bytes → Bytes → ℕ → Bytes → Search → Type 0
-EndsKey s pages lists k key (Found i) = Searched s (row k).mainAt pages lists key (P.At i.0)
-EndsKey s pages lists k key (Missing (Key j)) = Searched s (row k).mainAt pages lists key (P.Free j)
+EndsKey s pages lists k key (Found i) = Searched s (row k).main_at pages lists key (P.At i.0)
+EndsKey s pages lists k key (Missing (Key j)) = Searched s (row k).main_at pages lists key (P.Free j)
 EndsKey s pages lists k key (Missing (Head j)) = ⊥
-EndsKey s pages lists k key Bad = Searched s (row k).mainAt pages lists key P.Bad
+EndsKey s pages lists k key Bad = Searched s (row k).main_at pages lists key P.Bad
 
 -- What the main dictionary stores behind the head number f.
-abbrev pub keyBehind : ℕ → ℕ → Bytes → Bytes
-keyBehind k f rest = cond (row k).paired (fid f ++ rest) rest
+abbrev pub key_behind : ℕ → ℕ → Bytes → Bytes
+key_behind k f rest = cond (row k).paired (fid f ++ rest) rest
 
 -- The head is stored under the number f, or the kind has none. The search for the key ended so.
 pub record KeyEnded (s : Sizes) (pages lists : Bytes) (k : ℕ) (head rest : Bytes) (x : Sought) (r : Probe) : Type 0 where
   pub f : ℕ
-  pub behind : (row k).paired ≡ true → Searched s (row k).headsAt pages lists head (P.At f) × (leadBytes x.lead ≡ fid f) × (x.lead.len ≤ length x.lead.bytes)
-  pub hashed : x.h ≡ fnvOf (keyBehind k f rest)
-  pub searched : Searched s (row k).mainAt pages lists (keyBehind k f rest) r
+  pub behind : (row k).paired ≡ true → Searched s (row k).heads_at pages lists head (P.At f) × (lead_bytes x.lead ≡ fid f) × (x.lead.len ≤ length x.lead.bytes)
+  pub hashed : x.h ≡ fnv_of (key_behind k f rest)
+  pub searched : Searched s (row k).main_at pages lists (key_behind k f rest) r
 
 -- The search for the head ended so, and the key was not searched.
 pub record HeadEnded (s : Sizes) (pages lists : Bytes) (k : ℕ) (head : Bytes) (x : Sought) (r : Probe) : Type 0 where
   pub paired : (row k).paired ≡ true
-  pub hashed : x.headhash ≡ fnvOf head
-  pub searched : Searched s (row k).headsAt pages lists head r
+  pub hashed : x.headhash ≡ fnv_of head
+  pub searched : Searched s (row k).heads_at pages lists head r
 
 -- The search for a name of the kind k with this head and this rest.
 abbrev pub EndedBy : Sizes → Bytes → Bytes → ℕ → Bytes → Bytes → Sought → Search → Type 0

@@ -3,16 +3,16 @@
 
 ghost use Rattle.std.specs.Prelude.{◌≡◌, true, false, [], ◌++◌, ◌≤◌, ◌<◌, length};
 ghost use Rattle.std.proofs.Math.Option.{none};
-ghost use Rattle.fnv.specs.Fnv.{fnvOf, bitsFrom};
-ghost use Rattle.utf8.specs.Text.{isText};
+ghost use Rattle.fnv.specs.Fnv.{fnv_of, bits_from};
+ghost use Rattle.utf8.specs.Text.{is_text};
 ghost use Rattle.layout.specs.Sizes.{limit, kinds};
 ghost use Rattle.layout.specs.Lent.{Lent};
-ghost use Rattle.ranked_pair_dictionary.specs.FrequentId.{fid, leadBytes};
-ghost use Rattle.bytes_key.specs.Keys.{bytesIn, IsKey};
+ghost use Rattle.ranked_pair_dictionary.specs.FrequentId.{fid, lead_bytes};
+ghost use Rattle.bytes_key.specs.Keys.{bytes_in, IsKey};
 ghost use Rattle.bytes_index.specs.Search.{Searched};
 ghost use Rattle.model.specs.Names.{entered};
 ghost use Rattle.model.specs.Kinds.{row};
-ghost use Rattle.model.specs.Steps.{shapeRefusal};
+ghost use Rattle.model.specs.Steps.{shape_refusal};
 ghost use Rattle.search.specs.Found.{EndsKey, Ended, SearchEnded};
 
 use blocks::LocalId;
@@ -52,8 +52,8 @@ pub struct Sought {
 
 // The search for a head of the kind k, whose hash is h.
 fn find_head(pages: &[u8], lists: &[u8], s: Sizes, k: usize, h: u32, head: &[u8]) -> Probe
-    requires { Lent s pages.now lists.now kinds k × ((row k).paired ≡ true) × (h ≡ fnvOf head.now) }
-    ensures { Searched s (row k).headsAt pages.now lists.now head.now result }
+    requires { Lent s pages.now lists.now kinds k × ((row k).paired ≡ true) × (h ≡ fnv_of head.now) }
+    ensures { Searched s (row k).heads_at pages.now lists.now head.now result }
 {
     let none = &head[..0];
     let key = Key {
@@ -75,8 +75,8 @@ fn find_key(
     front: &[u8],
     rest: &[u8],
 ) -> Search
-    requires { Lent s pages.now lists.now kinds k × (key.d ≡ (row k).mainAt) × IsKey key front.now rest.now }
-    ensures { EndsKey s pages.now lists.now k (bytesIn key front.now rest.now) result }
+    requires { Lent s pages.now lists.now kinds k × (key.d ≡ (row k).main_at) × IsKey key front.now rest.now }
+    ensures { EndsKey s pages.now lists.now k (bytes_in key front.now rest.now) result }
 {
     match bytes_index::bytes_to_id(pages, lists, s, key, front, rest) {
         Probe::At(i) => Search::Found(names::entry_to_local(EntryId(i))),
@@ -114,8 +114,8 @@ fn find_behind(
 ) -> Sought
     requires { Lent s pages.now lists.now kinds k × (f < s.e) × (length rest.now ≤ limit s) }
     ensures found { EndsKey s pages.now lists.now k (fid f ++ rest.now) result.found }
-    ensures placed { (leadBytes result.lead ≡ fid f) × (result.lead.len ≤ length result.lead.bytes) × (result.h ≡ fnvOf (fid f ++ rest.now)) }
-    ensures ascii { result.ascii ≡ true → bitsFrom x.bits rest.now < 128 }
+    ensures placed { (lead_bytes result.lead ≡ fid f) × (result.lead.len ≤ length result.lead.bytes) × (result.h ≡ fnv_of (fid f ++ rest.now)) }
+    ensures ascii { result.ascii ≡ true → bits_from x.bits rest.now < 128 }
 {
     let lead = ranked_pair_dictionary::lead_of(f);
     let m = lead.len;
@@ -141,7 +141,7 @@ fn find_behind(
 fn find_pair(pages: &[u8], lists: &[u8], s: Sizes, k: usize, head: &[u8], rest: &[u8]) -> Sought
     requires { Lent s pages.now lists.now kinds k × ((row k).paired ≡ true) × (length rest.now ≤ limit s) }
     ensures ended { Ended s pages.now lists.now k head.now rest.now result }
-    ensures ascii { result.ascii ≡ true → bitsFrom (bitsFrom 0 head.now) rest.now < 128 }
+    ensures ascii { result.ascii ≡ true → bits_from (bits_from 0 head.now) rest.now < 128 }
 {
     let x = fnv::scan(fnv::START, 0, head);
     match find_head(pages, lists, s, k, x.h, head) {
@@ -153,9 +153,9 @@ fn find_pair(pages: &[u8], lists: &[u8], s: Sizes, k: usize, head: &[u8], rest: 
 
 // The search for a string of the kind k, which has no heads: a plain string, or a text with its tag.
 fn find_str(pages: &[u8], lists: &[u8], s: Sizes, k: usize, text: &[u8], tag: &[u8]) -> Sought
-    requires { Lent s pages.now lists.now kinds k × (shapeRefusal s (entered k text.now tag.now) ≡ none) × ((row k).paired ≡ false) }
+    requires { Lent s pages.now lists.now kinds k × (shape_refusal s (entered k text.now tag.now) ≡ none) × ((row k).paired ≡ false) }
     ensures ended { Ended s pages.now lists.now k [] ((row k).rest (entered k text.now tag.now)) result }
-    ensures ascii { result.ascii ≡ true → (isText text.now ≡ true) × (isText tag.now ≡ true) }
+    ensures ascii { result.ascii ≡ true → (is_text text.now ≡ true) × (is_text tag.now ≡ true) }
 {
     let mode = kind_table::front_mode(k);
     let x = fnv::scan(parts::hash_on(fnv::START, mode, tag), 0, text);
@@ -189,9 +189,9 @@ pub fn find_name<'a>(
     first: &'a [u8],
     second: &'a [u8],
 ) -> Sought
-    requires { Lent s pages.now lists.now kinds kind × (shapeRefusal s (entered kind first.now second.now) ≡ none) }
+    requires { Lent s pages.now lists.now kinds kind × (shape_refusal s (entered kind first.now second.now) ≡ none) }
     ensures ended { SearchEnded s pages.now lists.now (entered kind first.now second.now) result }
-    ensures ascii { result.ascii ≡ true → (isText first.now ≡ true) × (isText second.now ≡ true) }
+    ensures ascii { result.ascii ≡ true → (is_text first.now ≡ true) × (is_text second.now ≡ true) }
 {
     if !kind_table::has_heads(kind) {
         return find_str(&pages[..], &lists[..], s, kind, &first[..], &second[..]);

@@ -9,8 +9,8 @@ is_empty [] = true
 is_empty (x ∷ xs) = false
 
 -- Byte for byte the same.
-abbrev pub sameBytes : Bytes → Bytes → Bool
-sameBytes [] [] = true
-sameBytes [] (y ∷ ys) = false
-sameBytes (x ∷ xs) [] = false
-sameBytes (x ∷ xs) (y ∷ ys) = eqb x y && sameBytes xs ys
+abbrev pub same_bytes : Bytes → Bytes → Bool
+same_bytes [] [] = true
+same_bytes [] (y ∷ ys) = false
+same_bytes (x ∷ xs) [] = false
+same_bytes (x ∷ xs) (y ∷ ys) = eqb x y && same_bytes xs ys

@@ -9,22 +9,22 @@ use Rattle.slices.specs.Bytes.{Bytes}
 use Rattle.refusals.specs.declared.Refusal.{Refusal}
 use Rattle.refusals.specs.declared.Refusal.TheVariants.{ShortBuffer}
 use Rattle.refusals.specs.declared.Written.TheVariants as W
-use Rattle.string_dv_dict.specs.Packed.{packed, pairRefusal}
-use Rattle.string_dv_dict.specs.Answers.{packAnswer, packBuffer}
+use Rattle.string_dv_dict.specs.Packed.{packed, pair_refusal}
+use Rattle.string_dv_dict.specs.Answers.{pack_answer, pack_buffer}
 
 module _ (text tag buffer : Bytes) where
-  pub pack-refused : (why : Refusal) → pairRefusal text tag ≡ some why
-      → (packAnswer text tag (length buffer) ≡ W.Refused why) × (packBuffer text tag buffer ≡ buffer)
-  unfolding packAnswer packBuffer
+  pub pack-refused : (why : Refusal) → pair_refusal text tag ≡ some why
+      → (pack_answer text tag (length buffer) ≡ W.Refused why) × (pack_buffer text tag buffer ≡ buffer)
+  unfolding pack_answer pack_buffer
   pack-refused why e = rw e (refl, refl)
 
-  pub pack-no-room : pairRefusal text tag ≡ none → length buffer < length (packed text tag)
-      → (packAnswer text tag (length buffer) ≡ W.Refused ShortBuffer) × (packBuffer text tag buffer ≡ buffer)
-  unfolding packAnswer packBuffer
+  pub pack-no-room : pair_refusal text tag ≡ none → length buffer < length (packed text tag)
+      → (pack_answer text tag (length buffer) ≡ W.Refused ShortBuffer) × (pack_buffer text tag buffer ≡ buffer)
+  unfolding pack_answer pack_buffer
   pack-no-room e h = rw (e, lt-ltb _ _ h) (refl, refl)
 
-  pub pack-done : pairRefusal text tag ≡ none → length (packed text tag) ≤ length buffer
-      → (packAnswer text tag (length buffer) ≡ W.Length (length (packed text tag)))
-      × (packBuffer text tag buffer ≡ packed text tag ++ drop (length (packed text tag)) buffer)
-  unfolding packAnswer packBuffer
+  pub pack-done : pair_refusal text tag ≡ none → length (packed text tag) ≤ length buffer
+      → (pack_answer text tag (length buffer) ≡ W.Length (length (packed text tag)))
+      × (pack_buffer text tag buffer ≡ packed text tag ++ drop (length (packed text tag)) buffer)
+  unfolding pack_answer pack_buffer
   pack-done e h = rw (e, le-ltb _ _ h) (refl, refl)

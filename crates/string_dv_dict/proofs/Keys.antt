@@ -9,13 +9,13 @@ use lib.Seq.{sets}
 use Rattle.slices.specs.Bytes.{Bytes}
 use Rattle.slices.proofs.Tests.{Split, split}
 use Rattle.parts.specs.declared.Mode.TheVariants.{Tag}
-use Rattle.encoding.specs.Encoding.{escaped, tagBytes}
+use Rattle.encoding.specs.Encoding.{escaped, tag_bytes}
 use Rattle.parts.specs.Parts.{bytes_of}
 use Rattle.string_dv_dict.specs.Packed.{packed}
 use Rattle.string_dv_dict.proofs.Writes.{two-parts}
 
 pub packed-key : (text tag : Bytes) → packed text tag ≡ bytes_of Tag tag ++ text
-unfolding packed tagBytes bytes_of
+unfolding packed tag_bytes bytes_of
 packed-key text tag = go (split (leb (length tag) 127))
   where
     go : Split (leb (length tag) 127) → packed text tag ≡ bytes_of Tag tag ++ text

@@ -5,18 +5,18 @@ use Rattle.slices.specs.Bytes.{Bytes}
 use Rattle.refusals.specs.declared.Refusal.{Refusal}
 use Rattle.refusals.specs.declared.Refusal.TheVariants.{ShortBuffer}
 use Rattle.refusals.specs.declared.Written.{Written}
-use Rattle.refusals.specs.Written.{written_by, placedBy}
-use Rattle.string_dv_dict.specs.Packed.{packed, pairRefusal}
+use Rattle.refusals.specs.Written.{written_by, placed_by}
+use Rattle.string_dv_dict.specs.Packed.{packed, pair_refusal}
 
-abbrev pub withRoom : Bytes → ℕ → Option Refusal → Option Refusal
-withRoom form room none = cond (ltb room (length form)) (some ShortBuffer) none
-withRoom form room (some why) = some why
+abbrev pub with_room : Bytes → ℕ → Option Refusal → Option Refusal
+with_room form room none = cond (ltb room (length form)) (some ShortBuffer) none
+with_room form room (some why) = some why
 
-abbrev pub packRefusal : Bytes → Bytes → ℕ → Option Refusal
-packRefusal text tag room = withRoom (packed text tag) room (pairRefusal text tag)
+abbrev pub pack_refusal : Bytes → Bytes → ℕ → Option Refusal
+pack_refusal text tag room = with_room (packed text tag) room (pair_refusal text tag)
 
-unfoldable pub packAnswer : Bytes → Bytes → ℕ → Written
-packAnswer text tag room = written_by (packed text tag) (packRefusal text tag room)
+unfoldable pub pack_answer : Bytes → Bytes → ℕ → Written
+pack_answer text tag room = written_by (packed text tag) (pack_refusal text tag room)
 
-unfoldable pub packBuffer : Bytes → Bytes → Bytes → Bytes
-packBuffer text tag buffer = placedBy (packed text tag) buffer (packRefusal text tag (length buffer))
+unfoldable pub pack_buffer : Bytes → Bytes → Bytes → Bytes
+pack_buffer text tag buffer = placed_by (packed text tag) buffer (pack_refusal text tag (length buffer))

@@ -3,9 +3,9 @@
 
 ghost use Rattle.std.specs.Prelude.{◌≡◌, ◌+◌, ◌≤◌, length};
 ghost use Rattle.std.proofs.lemmas.List.Edits.{sets};
-ghost use Rattle.string_dv_dict.specs.Packed.{pairRefusal};
-ghost use Rattle.string_dv_dict.specs.Answers.{packAnswer, packBuffer};
-ghost use Rattle.refusals.specs.Checked.{checkedBy};
+ghost use Rattle.string_dv_dict.specs.Packed.{pair_refusal};
+ghost use Rattle.string_dv_dict.specs.Answers.{pack_answer, pack_buffer};
+ghost use Rattle.refusals.specs.Checked.{checked_by};
 ghost use Rattle.parts.specs.Parts.{bytes_of};
 
 use layout::Sizes;
@@ -14,7 +14,7 @@ use refusals::{Checked, Refusal, Written};
 
 // Checks a text and a tag for refusals 5, 6 and 7, in this order.
 pub fn check_pair(text: &[u8], tag: &[u8]) -> Checked
-    ensures { result ≡ checkedBy (pairRefusal text.now tag.now) }
+    ensures { result ≡ checked_by (pair_refusal text.now tag.now) }
 {
     if Sizes::NAME_LIMIT < text.len() + tag.len() {
         return Checked::Illegal(Refusal::TooLong);
@@ -41,7 +41,7 @@ pub fn write_stored(mode: Mode, s: &[u8], dst: &mut [u8], at: usize)
 
 // Packs a text and its tag at the buffer's start.
 pub fn two_strings_to_one(text: &[u8], tag: &[u8], buffer: &mut [u8]) -> Written
-    ensures { (result ≡ packAnswer text.now tag.now (length buffer.old)) × (buffer.new ≡ packBuffer text.now tag.now buffer.old) }
+    ensures { (result ≡ pack_answer text.now tag.now (length buffer.old)) × (buffer.new ≡ pack_buffer text.now tag.now buffer.old) }
 {
     let checked = check_pair(text, tag);
     if let Checked::Illegal(why) = checked {

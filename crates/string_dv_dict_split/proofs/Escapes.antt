@@ -13,7 +13,7 @@ use Rattle.slices.proofs.Tests.{Split, split}
 use Rattle.encoding.specs.Encoding.{escape, escaped}
 use Rattle.string_dv_dict_split.specs.declared.Scan.TheVariants.{Whole, Escape, Bad}
 use Rattle.string_dv_dict_split.specs.Forms.{before, behind, unescaped}
-use Rattle.string_dv_dict_split.specs.Scans.{scanFrom}
+use Rattle.string_dv_dict_split.specs.Scans.{scan_from}
 
 -- No '>' stands in an escaped tag.
 pub read-before : (t x : Bytes) → (before (escaped t ++ 62 ∷ x) ≡ escaped t) × (behind (escaped t ++ 62 ∷ x) ≡ x)
@@ -39,35 +39,35 @@ read-escaped (c ∷ t) = go (split (eqb c 92)) (split (eqb c 62)) (read-escaped 
 
 -- ---- the scan
 
-scan-bad : (s : Bytes) → scanFrom Bad s ≡ Bad
-unfolding scanFrom
+scan-bad : (s : Bytes) → scan_from Bad s ≡ Bad
+unfolding scan_from
 scan-bad [] = refl
 scan-bad (c ∷ s) = scan-bad s
 
 -- An escaped tag scans to its length.
-pub scan-escaped : (t : Bytes) (n : ℕ) → scanFrom (Whole n) (escaped t) ≡ Whole (n + length t)
-unfolding escape escaped scanFrom
+pub scan-escaped : (t : Bytes) (n : ℕ) → scan_from (Whole n) (escaped t) ≡ Whole (n + length t)
+unfolding escape escaped scan_from
 scan-escaped [] n = let e : n + 0 ≡ n = omega arith in rw e
 scan-escaped (c ∷ t) n = go (split (eqb c 92)) (split (eqb c 62)) (scan-escaped t (n + 1))
   where
-    go : Split (eqb c 92) → Split (eqb c 62) → scanFrom (Whole (n + 1)) (escaped t) ≡ Whole (n + 1 + length t)
-        → scanFrom (Whole n) (escaped (c ∷ t)) ≡ Whole (n + suc (length t))
+    go : Split (eqb c 92) → Split (eqb c 62) → scan_from (Whole (n + 1)) (escaped t) ≡ Whole (n + 1 + length t)
+        → scan_from (Whole n) (escaped (c ∷ t)) ≡ Whole (n + suc (length t))
     go p q ih = let e : n + suc (length t) ≡ n + 1 + length t = omega arith in rw e (each p q)
       where
-        each : Split (eqb c 92) → Split (eqb c 62) → scanFrom (Whole n) (escaped (c ∷ t)) ≡ Whole (n + 1 + length t)
+        each : Split (eqb c 92) → Split (eqb c 62) → scan_from (Whole n) (escaped (c ∷ t)) ≡ Whole (n + 1 + length t)
         each (inl p) q = rw p ih
         each (inr p) (inl q) = rw (p, q) ih
         each (inr p) (inr q) = rw (p, q, q, p) ih
 
 -- What scans to a length is the escaped form of what it unescapes to, which has that length: outside an escape, and behind a '\'.
 abbrev Outside : Bytes → Type 0
-Outside s = (n m : ℕ) → scanFrom (Whole n) s ≡ Whole m → (escaped (unescaped false s) ≡ s) × (m ≡ n + length (unescaped false s))
+Outside s = (n m : ℕ) → scan_from (Whole n) s ≡ Whole m → (escaped (unescaped false s) ≡ s) × (m ≡ n + length (unescaped false s))
 
 abbrev Behind : Bytes → Type 0
-Behind s = (n m : ℕ) → scanFrom (Escape n) s ≡ Whole m → (escaped (unescaped true s) ≡ 92 ∷ s) × (m ≡ n + length (unescaped true s))
+Behind s = (n m : ℕ) → scan_from (Escape n) s ≡ Whole m → (escaped (unescaped true s) ≡ 92 ∷ s) × (m ≡ n + length (unescaped true s))
 
 both : (s : Bytes) → Outside s × Behind s
-unfolding escape escaped unescaped scanFrom
+unfolding escape escaped unescaped scan_from
 both [] = (λ n m e. let u : n ≡ m = cc in (refl, omega arith), λ n m e. let z : ◌≡◌ {A = ℕ} 0 1 = cc in absurd (omega arith))
 both (c ∷ s) = (outside (both s), after (both s))
   where
@@ -76,15 +76,15 @@ both (c ∷ s) = (outside (both s), after (both s))
       where
         go : Split (eqb c 62) → Split (eqb c 92) → (escaped (unescaped false (c ∷ s)) ≡ c ∷ s) × (m ≡ n + length (unescaped false (c ∷ s)))
         go (inl p) q =
-            let x : scanFrom Bad s ≡ Whole m = rw p at e in
+            let x : scan_from Bad s ≡ Whole m = rw p at e in
             let z : ◌≡◌ {A = ℕ} 0 1 = cc (scan-bad s) in absurd (omega arith)
         go (inr p) (inl q) =
-            let x : scanFrom (Escape n) s ≡ Whole m = rw (p, q) at e in
+            let x : scan_from (Escape n) s ≡ Whole m = rw (p, q) at e in
             let h = ih.1 n m x in
             let k : c ≡ 92 = eqb-true c 92 q in
             rw q (rw k h.0, h.1)
         go (inr p) (inr q) =
-            let x : scanFrom (Whole (n + 1)) s ≡ Whole m = rw (p, q) at e in
+            let x : scan_from (Whole (n + 1)) s ≡ Whole m = rw (p, q) at e in
             let h = ih.0 (n + 1) m x in
             rw (q, q, p) (ap (λ (l : Bytes). c ∷ l) h.0, omega (arith, h.1))
 
@@ -93,21 +93,21 @@ both (c ∷ s) = (outside (both s), after (both s))
       where
         go : Split (eqb c 92) → Split (eqb c 97) → (escaped (unescaped true (c ∷ s)) ≡ 92 ∷ c ∷ s) × (m ≡ n + length (unescaped true (c ∷ s)))
         go (inl p) q =
-            let x : scanFrom (Whole (n + 1)) s ≡ Whole m = rw p at e in
+            let x : scan_from (Whole (n + 1)) s ≡ Whole m = rw p at e in
             let h = ih.0 (n + 1) m x in
             let k : c ≡ 92 = eqb-true c 92 p in
             rw k (ap (λ (l : Bytes). 92 ∷ 92 ∷ l) h.0, omega (arith, h.1))
         go (inr p) (inl q) =
-            let x : scanFrom (Whole (n + 1)) s ≡ Whole m = rw (p, q) at e in
+            let x : scan_from (Whole (n + 1)) s ≡ Whole m = rw (p, q) at e in
             let h = ih.0 (n + 1) m x in
             let k : c ≡ 97 = eqb-true c 97 q in
             rw k (ap (λ (l : Bytes). 92 ∷ 97 ∷ l) h.0, omega (arith, h.1))
         go (inr p) (inr q) =
-            let x : scanFrom Bad s ≡ Whole m = rw (p, q) at e in
+            let x : scan_from Bad s ≡ Whole m = rw (p, q) at e in
             let z : ◌≡◌ {A = ℕ} 0 1 = cc (scan-bad s) in absurd (omega arith)
 
 -- A run of bytes scans to m exactly if it is the escaped form of m bytes, which are what it unescapes to.
-pub scan_good : (s : Bytes) (m : ℕ) → scanFrom (Whole 0) s ≡ Whole m → (escaped (unescaped false s) ≡ s) × (m ≡ length (unescaped false s))
+pub scan_good : (s : Bytes) (m : ℕ) → scan_from (Whole 0) s ≡ Whole m → (escaped (unescaped false s) ≡ s) × (m ≡ length (unescaped false s))
 scan_good s m e = let h = (both s).0 0 m e in (h.0, omega (arith, h.1))
 
 -- ---- the first '>'

@@ -15,18 +15,18 @@ use Rattle.slices.proofs.Tests.{Split, split, and_left, and_right, clash}
 use Rattle.slices.proofs.Bytes.{bytes-true, bytes_same, not-empty}
 use Rattle.encoding.specs.Encoding.{escaped}
 use Rattle.refusals.specs.declared.Refusal.{Refusal}
-use Rattle.string_dv_dict.specs.Packed.{packed, pairRefusal}
+use Rattle.string_dv_dict.specs.Packed.{packed, pair_refusal}
 use Rattle.string_dv_dict.proofs.Laws.{legal-tagged}
-use Rattle.string_dv_dict_split.specs.Forms.{before, behind, unescaped, tagIn, textIn, isLegal, accepted}
+use Rattle.string_dv_dict_split.specs.Forms.{before, behind, unescaped, tag_in, text_in, is_legal, accepted}
 use Rattle.string_dv_dict_split.proofs.Escapes.{read-before, read-escaped, before_split}
 
 -- ---- unpacking what was packed
 
-pub parts-back : (text tag : Bytes) → is_empty tag ≡ false → (textIn (packed text tag) ≡ text) × (tagIn (packed text tag) ≡ tag)
-unfolding packed textIn tagIn
+pub parts-back : (text tag : Bytes) → is_empty tag ≡ false → (text_in (packed text tag) ≡ text) × (tag_in (packed text tag) ≡ tag)
+unfolding packed text_in tag_in
 parts-back text tag h = go (split (leb (length tag) 127))
   where
-    go : Split (leb (length tag) 127) → (textIn (packed text tag) ≡ text) × (tagIn (packed text tag) ≡ tag)
+    go : Split (leb (length tag) 127) → (text_in (packed text tag) ≡ text) × (tag_in (packed text tag) ≡ tag)
     go (inl p) =
         let z : eqb (length tag) 0 ≡ false = ne_eqb (length tag) 0 (omega (arith, not-empty tag h)) in
         rw (p, z) (drop-append_seam tag text, take-append_seam tag text)
@@ -35,48 +35,48 @@ parts-back text tag h = go (split (leb (length tag) 127))
         rw p (b.1, ap (λ (s : Bytes). unescaped false s) b.0 ∙ read-escaped tag)
 
 -- The form of a legal text and tag is accepted, and gives them back.
-pub pack-unpack : (text tag : Bytes) → pairRefusal text tag ≡ none
-    → (accepted (packed text tag) ≡ true) × (textIn (packed text tag) ≡ text) × (tagIn (packed text tag) ≡ tag)
+pub pack-unpack : (text tag : Bytes) → pair_refusal text tag ≡ none
+    → (accepted (packed text tag) ≡ true) × (text_in (packed text tag) ≡ text) × (tag_in (packed text tag) ≡ tag)
 unfolding accepted
 pack-unpack text tag e =
     let b = parts-back text tag (legal-tagged text tag e).tagged in
     (rw (b.0, b.1, e, bytes_same (packed text tag)), b.0, b.1)
 
-is-none : (o : Option Refusal) → isLegal o ≡ true → o ≡ none
+is-none : (o : Option Refusal) → is_legal o ≡ true → o ≡ none
 is-none none e = refl
 is-none (some why) e = clash e refl
 
 -- An accepted form is that of the legal text and tag which it gives.
 pub unpack-pack : (form : Bytes) → accepted form ≡ true
-    → (pairRefusal (textIn form) (tagIn form) ≡ none) × (packed (textIn form) (tagIn form) ≡ form)
+    → (pair_refusal (text_in form) (tag_in form) ≡ none) × (packed (text_in form) (tag_in form) ≡ form)
 unfolding accepted
 unpack-pack form e = (
-  is-none _ (and_left (isLegal (pairRefusal (textIn form) (tagIn form))) _ e),
-  bytes-true _ _ (and_right (isLegal (pairRefusal (textIn form) (tagIn form))) _ e),
+  is-none _ (and_left (is_legal (pair_refusal (text_in form) (tag_in form))) _ e),
+  bytes-true _ _ (and_right (is_legal (pair_refusal (text_in form) (tag_in form))) _ e),
 )
 
 -- ---- what an accepted form looks like
 
-pub short-form : (n : ℕ) (s : Bytes) → n ≢ 0 → (textIn (n ∷ s) ≡ drop n s) × (tagIn (n ∷ s) ≡ take n s)
-unfolding textIn tagIn
+pub short-form : (n : ℕ) (s : Bytes) → n ≢ 0 → (text_in (n ∷ s) ≡ drop n s) × (tag_in (n ∷ s) ≡ take n s)
+unfolding text_in tag_in
 short-form n s z = rw (ne_eqb n 0 z) (refl, refl)
 
 -- One with a short tag.
 pub record Short (n : ℕ) (s : Bytes) : Type 0 where
   pub low : n ≤ 127
   pub within : n ≤ length s
-  pub pair : pairRefusal (drop n s) (take n s) ≡ none
+  pub pair : pair_refusal (drop n s) (take n s) ≡ none
 
 pub accepted-short : (n : ℕ) (s : Bytes) → n ≢ 0 → accepted (n ∷ s) ≡ true → Short n s
 unfolding packed
 accepted-short n s z e =
     let p = short-form n s z in
     let u = unpack-pack (n ∷ s) e in
-    let f : pairRefusal (drop n s) (take n s) ≡ none = rw (p.0, p.1) at u.0 in
+    let f : pair_refusal (drop n s) (take n s) ≡ none = rw (p.0, p.1) at u.0 in
     let g : packed (drop n s) (take n s) ≡ n ∷ s = rw (p.0, p.1) at u.1 in
     go f g (split (leb (length (take n s)) 127))
   where
-    go : pairRefusal (drop n s) (take n s) ≡ none → packed (drop n s) (take n s) ≡ n ∷ s → Split (leb (length (take n s)) 127) → Short n s
+    go : pair_refusal (drop n s) (take n s) ≡ none → packed (drop n s) (take n s) ≡ n ∷ s → Split (leb (length (take n s)) 127) → Short n s
     go f g (inl q) =
         let x : length (take n s) ∷ take n s ++ drop n s ≡ n ∷ s = rw q at g in
         let y : length (take n s) ≡ n = cc in
@@ -101,13 +101,13 @@ pub record Long (s : Bytes) : Type 0 where
   pub ended : length (before s) < length s
   pub form : escaped (unescaped false (before s)) ≡ before s
   pub high : 127 < length (unescaped false (before s))
-  pub pair : pairRefusal (behind s) (unescaped false (before s)) ≡ none
+  pub pair : pair_refusal (behind s) (unescaped false (before s)) ≡ none
 
 pub accepted-long : (s : Bytes) → accepted (0 ∷ s) ≡ true → Long s
-unfolding packed textIn tagIn
+unfolding packed text_in tag_in
 accepted-long s e = go (unpack-pack (0 ∷ s) e) (split (leb (length (unescaped false (before s))) 127))
   where
-    go : (pairRefusal (behind s) (unescaped false (before s)) ≡ none) × (packed (behind s) (unescaped false (before s)) ≡ 0 ∷ s)
+    go : (pair_refusal (behind s) (unescaped false (before s)) ≡ none) × (packed (behind s) (unescaped false (before s)) ≡ 0 ∷ s)
         → Split (leb (length (unescaped false (before s))) 127)
         → Long s
     go u (inl q) =
@@ -129,7 +129,7 @@ accepted-long s e = go (unpack-pack (0 ∷ s) e) (split (leb (length (unescaped 
         }
 
 pub long-accepted : (s : Bytes) → Long s → accepted (0 ∷ s) ≡ true
-unfolding accepted packed textIn tagIn
+unfolding accepted packed text_in tag_in
 long-accepted s h =
     let b = before_split s h.ended in
     rw (h.pair, lt-leb _ 127 h.high, h.form, ← b.0) (bytes_same (0 ∷ s))

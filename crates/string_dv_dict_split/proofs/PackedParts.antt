@@ -13,16 +13,16 @@ use lib.Seq.{take_all, drop-drop, length-take-le}
 use borrow.Author.Tests.{eqb-true, eqb-false, leb-true, leb-false, ltb-true, ltb-false}
 use Rattle.slices.specs.Bytes.{Bytes}
 use Rattle.slices.proofs.Tests.{Split, split, clash}
-use Rattle.utf8.specs.Text.{isText}
+use Rattle.utf8.specs.Text.{is_text}
 use Rattle.encoding.specs.Encoding.{escaped}
 use Rattle.encoding.proofs.Laws.{length-escaped}
 use Rattle.string_dv_dict_split.specs.declared.Scan.{Scan}
 use Rattle.string_dv_dict_split.specs.declared.Scan.TheVariants.{Whole, Escape, Bad}
 use Rattle.string_dv_dict_split.specs.declared.Form.{Form}
 use Rattle.string_dv_dict_split.specs.declared.Form.TheVariants as F
-use Rattle.string_dv_dict.specs.Packed.{pairRefusal}
-use Rattle.string_dv_dict_split.specs.Forms.{before, unescaped, tagIn, textIn, accepted}
-use Rattle.string_dv_dict_split.specs.Scans.{scanFrom, longBy, longSplit, splitOf, formOf, ShortForm, LongForm, Splits}
+use Rattle.string_dv_dict.specs.Packed.{pair_refusal}
+use Rattle.string_dv_dict_split.specs.Forms.{before, unescaped, tag_in, text_in, accepted}
+use Rattle.string_dv_dict_split.specs.Scans.{scan_from, long_by, long_split, split_of, form_of, ShortForm, LongForm, Splits}
 use Rattle.string_dv_dict_split.proofs.Escapes.{read-escaped, scan-escaped, scan_good, take-before, before_split}
 use Rattle.string_dv_dict_split.proofs.Text.{text-escaped}
 use Rattle.string_dv_dict.proofs.Laws.{legal-tagged}
@@ -62,53 +62,53 @@ Is form (F.Long end n) = IsLong form end n
 Is form F.Cut = accepted form ≡ false
 
 empty-cut : accepted [] ≡ false
-unfolding tagIn
-empty-cut = not-accepted [] (λ p. clash refl (legal-tagged (textIn []) (tagIn []) (unpack-pack [] p).0).tagged)
+unfolding tag_in
+empty-cut = not-accepted [] (λ p. clash refl (legal-tagged (text_in []) (tag_in []) (unpack-pack [] p).0).tagged)
 
 -- What stands before the first '>' of an accepted form scans well.
-scans : (s : Bytes) → Long s → scanFrom (Whole 0) (before s) ≡ Whole (length (unescaped false (before s)))
+scans : (s : Bytes) → Long s → scan_from (Whole 0) (before s) ≡ Whole (length (unescaped false (before s)))
 scans s h =
     let tag = unescaped false (before s) in
-    ap (λ (x : Bytes). scanFrom (Whole 0) x) (sym h.form) ∙ scan-escaped tag 0 ∙ ap Whole (zero-add (length tag))
+    ap (λ (x : Bytes). scan_from (Whole 0) x) (sym h.form) ∙ scan-escaped tag 0 ∙ ap Whole (zero-add (length tag))
 
-is-long : (s : Bytes) → Is (0 ∷ s) (longSplit s)
-unfolding longSplit
+is-long : (s : Bytes) → Is (0 ∷ s) (long_split s)
+unfolding long_split
 is-long s = go (split (ltb (length (before s)) (length s)))
   where
-    by : length (before s) < length s → (r : Scan) → scanFrom (Whole 0) (before s) ≡ r → Is (0 ∷ s) (longBy (length (before s)) r)
+    by : length (before s) < length s → (r : Scan) → scan_from (Whole 0) (before s) ≡ r → Is (0 ∷ s) (long_by (length (before s)) r)
     by l (Whole n) e = let g = scan_good (before s) n e in record { whole = refl; ended = l; stands = refl; tag = g.0; size = g.1 }
     by l (Escape n) e = not-accepted (0 ∷ s) (λ p. let z : ◌≡◌ {A = ℕ} 0 1 = cc (scans s (accepted-long s p)) in omega arith)
     by l Bad e = not-accepted (0 ∷ s) (λ p. let z : ◌≡◌ {A = ℕ} 0 1 = cc (scans s (accepted-long s p)) in omega arith)
 
-    go : Split (ltb (length (before s)) (length s)) → Is (0 ∷ s) (longSplit s)
-    go (inl p) = rw p (by (ltb-true _ _ p) (scanFrom (Whole 0) (before s)) refl)
+    go : Split (ltb (length (before s)) (length s)) → Is (0 ∷ s) (long_split s)
+    go (inl p) = rw p (by (ltb-true _ _ p) (scan_from (Whole 0) (before s)) refl)
     go (inr p) = rw p (not-accepted (0 ∷ s) (λ q. omega (arith, (accepted-long s q).ended, ltb-false)))
 
-is-split : (form : Bytes) → Is form (splitOf form)
-unfolding splitOf
+is-split : (form : Bytes) → Is form (split_of form)
+unfolding split_of
 is-split [] = empty-cut
 is-split (n ∷ s) = go (split (eqb n 0)) (split (leb n (length s)))
   where
-    go : Split (eqb n 0) → Split (leb n (length s)) → Is (n ∷ s) (splitOf (n ∷ s))
-    go (inl p) q = rw p (subst (λ (k : ℕ). Is (k ∷ s) (longSplit s)) (sym (eqb-true n 0 p)) (is-long s))
+    go : Split (eqb n 0) → Split (leb n (length s)) → Is (n ∷ s) (split_of (n ∷ s))
+    go (inl p) q = rw p (subst (λ (k : ℕ). Is (k ∷ s) (long_split s)) (sym (eqb-true n 0 p)) (is-long s))
     go (inr p) (inl q) = rw (p, q) (record { whole = refl; filled = eqb-false n 0 p; within = leb-true _ _ q })
     go (inr p) (inr q) = rw (p, q) (not-accepted (n ∷ s) (λ h. omega (arith, (accepted-short n s (eqb-false n 0 p) h).within, leb-false)))
 
-split-is : (form : Bytes) (r : Form) → splitOf form ≡ r → Is form r
+split-is : (form : Bytes) (r : Form) → split_of form ≡ r → Is form r
 split-is form r e = subst (λ (x : Form). Is form x) e (is-split form)
 
 -- ---- what that says of the parts
 
-pub split_parts : (form : Bytes) (r : Form) → splitOf form ≡ r → Splits form r
-unfolding textIn tagIn
+pub split_parts : (form : Bytes) (r : Form) → split_of form ≡ r → Splits form r
+unfolding text_in tag_in
 split_parts form (F.Short n) e =
     let h = split-is form (F.Short n) e in
     let p = short-form n (drop 1 form) h.filled in
     let k : n + 1 ≡ 1 + n = omega arith in
     record {
       split = e;
-      tag = ap tagIn (sym h.whole) ∙ p.1;
-      text = ap textIn (sym h.whole) ∙ p.0 ∙ rw k (drop-drop n 1 form);
+      tag = ap tag_in (sym h.whole) ∙ p.1;
+      text = ap text_in (sym h.whole) ∙ p.0 ∙ rw k (drop-drop n 1 form);
       within = omega (arith, h.within, h.filled, length-drop 1 form);
     }
 split_parts form (F.Long end n) e =
@@ -117,25 +117,25 @@ split_parts form (F.Long end n) e =
     let k : end + 2 ≡ 1 + suc end = omega arith in
     record {
       split = e;
-      tag = ap (λ (x : Bytes). escaped (tagIn x)) (sym h.whole) ∙ h.tag ∙ rw h.stands (sym (take-before s));
-      text = ap textIn (sym h.whole) ∙ (before_split s h.ended).1 ∙ rw (k, ← h.stands) (drop-drop (suc end) 1 form);
+      tag = ap (λ (x : Bytes). escaped (tag_in x)) (sym h.whole) ∙ h.tag ∙ rw h.stands (sym (take-before s));
+      text = ap text_in (sym h.whole) ∙ (before_split s h.ended).1 ∙ rw (k, ← h.stands) (drop-drop (suc end) 1 form);
       within = omega (arith, h.ended, h.stands, length-drop 1 form);
-      tagLength = ap (λ (x : Bytes). length (tagIn x)) (sym h.whole) ∙ sym h.size;
+      tag_length = ap (λ (x : Bytes). length (tag_in x)) (sym h.whole) ∙ sym h.size;
     }
 split_parts form F.Cut e = split-is form F.Cut e
 
 -- The parts as the code cuts them out, and which short forms packing makes.
 module _ {form : Bytes} {n : ℕ} (h : ShortForm form n) where
-  pub short-text : take (length form - (n + 1)) (drop (n + 1) form) ≡ textIn form
+  pub short-text : take (length form - (n + 1)) (drop (n + 1) form) ≡ text_in form
   short-text = to_end form (n + 1) ∙ sym h.text
 
-  pub short-tag : take (n + 1 - 1) (drop 1 form) ≡ tagIn form
+  pub short-tag : take (n + 1 - 1) (drop 1 form) ≡ tag_in form
   short-tag = behind-first form n ∙ sym h.tag
 
-  pub short-length : n ≡ length (tagIn form)
+  pub short-length : n ≡ length (tag_in form)
   short-length = rw h.tag (sym (length-take-le n (drop 1 form) (simp length-drop (omega (arith, h.within)))))
 
-  pub short-pair : pairRefusal (take (length form - (n + 1)) (drop (n + 1) form)) (take (n + 1 - 1) (drop 1 form)) ≡ pairRefusal (textIn form) (tagIn form)
+  pub short-pair : pair_refusal (take (length form - (n + 1)) (drop (n + 1) form)) (take (n + 1 - 1) (drop 1 form)) ≡ pair_refusal (text_in form) (tag_in form)
   short-pair = rw (short-text, short-tag)
 
   pub short-low : accepted form ≡ true → n ≤ 127
@@ -143,7 +143,7 @@ module _ {form : Bytes} {n : ℕ} (h : ShortForm form n) where
       let i = split-is form (F.Short n) h.split in
       (accepted-short n (drop 1 form) i.filled (ap accepted i.whole ∙ p)).low
 
-  pub short-taken : n ≤ 127 → pairRefusal (textIn form) (tagIn form) ≡ none → accepted form ≡ true
+  pub short-taken : n ≤ 127 → pair_refusal (text_in form) (tag_in form) ≡ none → accepted form ≡ true
   short-taken l q =
       let i = split-is form (F.Short n) h.split in
       let p = short-form n (drop 1 form) i.filled in
@@ -153,34 +153,34 @@ module _ {form : Bytes} {n : ℕ} (h : ShortForm form n) where
 
 -- The same of long ones.
 module _ {form : Bytes} {end n : ℕ} (h : LongForm form end n) where
-  pub long-text : take (length form - (end + 2)) (drop (end + 2) form) ≡ textIn form
+  pub long-text : take (length form - (end + 2)) (drop (end + 2) form) ≡ text_in form
   long-text = to_end form (end + 2) ∙ sym h.text
 
-  pub long-escaped : take (end + 1 - 1) (drop 1 form) ≡ escaped (tagIn form)
+  pub long-escaped : take (end + 1 - 1) (drop 1 form) ≡ escaped (tag_in form)
   long-escaped = behind-first form end ∙ sym h.tag
 
-  pub long-tag : unescaped false (take (end + 1 - 1) (drop 1 form)) ≡ tagIn form
-  long-tag = rw long-escaped (read-escaped (tagIn form))
+  pub long-tag : unescaped false (take (end + 1 - 1) (drop 1 form)) ≡ tag_in form
+  long-tag = rw long-escaped (read-escaped (tag_in form))
 
   pub long-low : n ≤ end
   long-low = omega (
     arith,
-    (length-escaped (tagIn form)).1,
+    (length-escaped (tag_in form)).1,
     ap length h.tag,
     length-take-le end (drop 1 form) (simp length-drop (omega (arith, h.within))),
-    h.tagLength,
+    h.tag_length,
   )
 
-  pub long-is-text : isText (take (end + 1 - 1) (drop 1 form)) ≡ isText (tagIn form)
-  long-is-text = ap isText long-escaped ∙ text-escaped (tagIn form)
+  pub long-is-text : is_text (take (end + 1 - 1) (drop 1 form)) ≡ is_text (tag_in form)
+  long-is-text = ap is_text long-escaped ∙ text-escaped (tag_in form)
 
   pub long-high : accepted form ≡ true → 127 < n
   long-high p =
       let i = split-is form (F.Long end n) h.split in
       omega (arith, (accepted-long (drop 1 form) (ap accepted i.whole ∙ p)).high, i.size)
 
-  pub long-taken : 127 < n → pairRefusal (textIn form) (tagIn form) ≡ none → accepted form ≡ true
-  unfolding textIn tagIn
+  pub long-taken : 127 < n → pair_refusal (text_in form) (tag_in form) ≡ none → accepted form ≡ true
+  unfolding text_in tag_in
   long-taken l q =
       let i = split-is form (F.Long end n) h.split in
       ap accepted (sym i.whole)
@@ -189,7 +189,7 @@ module _ {form : Bytes} {end n : ℕ} (h : LongForm form end n) where
         ended = i.ended;
         form = i.tag;
         high = omega (arith, i.size);
-        pair = ap (λ (x : Bytes). pairRefusal (textIn x) (tagIn x)) i.whole ∙ q;
+        pair = ap (λ (x : Bytes). pair_refusal (text_in x) (tag_in x)) i.whole ∙ q;
       })
 
 -- ---- the forms that packing makes
@@ -200,20 +200,20 @@ PackedParts form (F.Long end n) = (accepted form ≡ true) × LongForm form end 
 PackedParts form F.Cut = accepted form ≡ false
 
 module _ (form : Bytes) where
-  pub taken-form : accepted form ≡ true → splitOf form ≡ formOf form
-  unfolding formOf
+  pub taken-form : accepted form ≡ true → split_of form ≡ form_of form
+  unfolding form_of
   taken-form p = rw p
 
-  pub cut-form : (accepted form ≡ true → ⊥) → F.Cut ≡ formOf form
-  unfolding formOf
+  pub cut-form : (accepted form ≡ true → ⊥) → F.Cut ≡ form_of form
+  unfolding form_of
   cut-form never = rw (not-accepted form never)
 
-  taken-parts : accepted form ≡ true → (r : Form) → splitOf form ≡ r → PackedParts form r
+  taken-parts : accepted form ≡ true → (r : Form) → split_of form ≡ r → PackedParts form r
   taken-parts p (F.Short n) e = (p, split_parts form (F.Short n) e)
   taken-parts p (F.Long end n) e = (p, split_parts form (F.Long end n) e)
   taken-parts p F.Cut e = split_parts form F.Cut e
 
-  pub form-parts : (r : Form) → formOf form ≡ r → PackedParts form r
+  pub form-parts : (r : Form) → form_of form ≡ r → PackedParts form r
   form-parts r e = go (split (accepted form))
     where
       go : Split (accepted form) → PackedParts form r

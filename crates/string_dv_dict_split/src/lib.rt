@@ -3,7 +3,7 @@
 
 ghost use Rattle.std.specs.Prelude.{◌≡◌, ◌+◌, ◌^◌, ◌<◌, length};
 ghost use Rattle.string_dv_dict_split.specs.Forms.{before};
-ghost use Rattle.string_dv_dict_split.specs.Scans.{scanStep, scanFrom, scanned, longSplit, splitOf, formOf, ShortForm, LongForm};
+ghost use Rattle.string_dv_dict_split.specs.Scans.{scan_step, scan_from, scanned, long_split, split_of, form_of, ShortForm, LongForm};
 
 use encoding::SHORT;
 use layout::Sizes;
@@ -41,7 +41,7 @@ fn find_end(s: &[u8]) -> usize
 
 fn scan_byte(state: Scan, c: u8) -> Scan
     requires { scanned state + 1 < 2 ^ 64 }
-    ensures { result ≡ scanStep state c }
+    ensures { result ≡ scan_step state c }
 {
     match state {
         Scan::Whole(n) => {
@@ -70,7 +70,7 @@ fn scan_byte(state: Scan, c: u8) -> Scan
 }
 
 fn scan_tag(s: &[u8]) -> Scan
-    ensures { result ≡ scanFrom (Scan.Whole 0) s.now }
+    ensures { result ≡ scan_from (Scan.Whole 0) s.now }
 {
     let mut state = Scan::Whole(0);
     let mut i = 0;
@@ -83,7 +83,7 @@ fn scan_tag(s: &[u8]) -> Scan
 
 // Splits a long form; s begins behind its 0.
 fn split_long(s: &[u8]) -> Form
-    ensures { result ≡ longSplit s.now }
+    ensures { result ≡ long_split s.now }
 {
     let end = find_end(s);
     if end == s.len() {
@@ -97,7 +97,7 @@ fn split_long(s: &[u8]) -> Form
 
 // Where the parts of a form would lie, by its shape alone. It does not check that they are text, or that packing would choose this form.
 pub fn split(form: &[u8]) -> Form
-    ensures { result ≡ splitOf form.now }
+    ensures { result ≡ split_of form.now }
 {
     if form.len() == 0 {
         return Form::Cut;
@@ -114,7 +114,7 @@ pub fn split(form: &[u8]) -> Form
 
 fn check_short(form: &[u8], n: usize) -> Form
     requires { ShortForm form.now n }
-    ensures { result ≡ formOf form.now }
+    ensures { result ≡ form_of form.now }
 {
     if SHORT < n {
         return Form::Cut;
@@ -128,7 +128,7 @@ fn check_short(form: &[u8], n: usize) -> Form
 
 fn check_long(form: &[u8], end: usize, n: usize) -> Form
     requires { LongForm form.now end n }
-    ensures { result ≡ formOf form.now }
+    ensures { result ≡ form_of form.now }
 {
     if n <= SHORT {
         return Form::Cut;
@@ -149,7 +149,7 @@ fn check_long(form: &[u8], end: usize, n: usize) -> Form
 
 // Where the parts of a packed form lie; Cut if packing makes no such form.
 pub fn split_packed(form: &[u8]) -> Form
-    ensures { result ≡ formOf form.now }
+    ensures { result ≡ form_of form.now }
 {
     match split(form) {
         Form::Short(n) => check_short(form, n),

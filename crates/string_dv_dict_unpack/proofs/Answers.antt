@@ -6,34 +6,34 @@ use mathlib.Core.List.{◌++◌}
 use lib.ListN.{length, drop}
 use borrow.Author.Tests.{lt-ltb, le-ltb}
 use Rattle.slices.specs.Bytes.{Bytes}
-use Rattle.layout.specs.Sizes.{packedLimit}
+use Rattle.layout.specs.Sizes.{packed_limit}
 use Rattle.refusals.specs.declared.Refusal.TheVariants.{TooLong, ShortBuffer, CutForm}
-use Rattle.string_dv_dict_split.specs.Forms.{accepted, textIn, tagIn}
+use Rattle.string_dv_dict_split.specs.Forms.{accepted, text_in, tag_in}
 use Rattle.string_dv_dict_unpack.specs.declared.Unpacked.{Unpacked}
 use Rattle.string_dv_dict_unpack.specs.declared.Unpacked.TheVariants.{Lengths, Refused}
-use Rattle.string_dv_dict_unpack.specs.Answers.{unpackAnswer, unpackBuffer}
+use Rattle.string_dv_dict_unpack.specs.Answers.{unpack_answer, unpack_buffer}
 
 module _ (form buffer : Bytes) where
-  pub unpack-long-form : packedLimit < length form
-      → (unpackAnswer form (length buffer) ≡ Refused TooLong) × (unpackBuffer form buffer ≡ buffer)
-  unfolding unpackAnswer unpackBuffer
+  pub unpack-long-form : packed_limit < length form
+      → (unpack_answer form (length buffer) ≡ Refused TooLong) × (unpack_buffer form buffer ≡ buffer)
+  unfolding unpack_answer unpack_buffer
   unpack-long-form h = rw (lt-ltb _ _ h) (refl, refl)
 
-  module _ (l : length form ≤ packedLimit) where
+  module _ (l : length form ≤ packed_limit) where
     pub unpack-cut : accepted form ≡ false
-        → (unpackAnswer form (length buffer) ≡ Refused CutForm) × (unpackBuffer form buffer ≡ buffer)
-    unfolding unpackAnswer unpackBuffer
+        → (unpack_answer form (length buffer) ≡ Refused CutForm) × (unpack_buffer form buffer ≡ buffer)
+    unfolding unpack_answer unpack_buffer
     unpack-cut e = rw (le-ltb _ _ l, e) (refl, refl)
 
-    pub unpack-no-room : accepted form ≡ true → length buffer < length (textIn form) + length (tagIn form)
-        → (unpackAnswer form (length buffer) ≡ Refused ShortBuffer) × (unpackBuffer form buffer ≡ buffer)
-    unfolding unpackAnswer unpackBuffer
+    pub unpack-no-room : accepted form ≡ true → length buffer < length (text_in form) + length (tag_in form)
+        → (unpack_answer form (length buffer) ≡ Refused ShortBuffer) × (unpack_buffer form buffer ≡ buffer)
+    unfolding unpack_answer unpack_buffer
     unpack-no-room e h = rw (le-ltb _ _ l, e, lt-ltb _ _ h) (refl, refl)
 
-    pub unpack-done : accepted form ≡ true → length (textIn form) + length (tagIn form) ≤ length buffer
-        → (unpackAnswer form (length buffer) ≡ Lengths (length (textIn form)) (length (tagIn form)))
-        × (unpackBuffer form buffer ≡ (textIn form ++ tagIn form) ++ drop (length (textIn form ++ tagIn form)) buffer)
-    unfolding unpackAnswer unpackBuffer
+    pub unpack-done : accepted form ≡ true → length (text_in form) + length (tag_in form) ≤ length buffer
+        → (unpack_answer form (length buffer) ≡ Lengths (length (text_in form)) (length (tag_in form)))
+        × (unpack_buffer form buffer ≡ (text_in form ++ tag_in form) ++ drop (length (text_in form ++ tag_in form)) buffer)
+    unfolding unpack_answer unpack_buffer
     unpack-done e h = rw (le-ltb _ _ l, e, le-ltb _ _ h) (refl, refl)
 
 -- Both lengths, said of the parts that were cut out.

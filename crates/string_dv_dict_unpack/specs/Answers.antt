@@ -2,27 +2,27 @@
 use Rattle.std.specs.Prelude.{ℕ, ◌+◌, not, cond, ◌++◌, ltb, length}
 use Rattle.std.proofs.Math.Option.{Option, none, some}
 use Rattle.slices.specs.Bytes.{Bytes}
-use Rattle.layout.specs.Sizes.{packedLimit}
+use Rattle.layout.specs.Sizes.{packed_limit}
 use Rattle.refusals.specs.declared.Refusal.{Refusal}
 use Rattle.refusals.specs.declared.Refusal.TheVariants.{TooLong, ShortBuffer, CutForm}
-use Rattle.refusals.specs.Written.{placedBy}
-use Rattle.string_dv_dict_split.specs.Forms.{accepted, textIn, tagIn}
+use Rattle.refusals.specs.Written.{placed_by}
+use Rattle.string_dv_dict_split.specs.Forms.{accepted, text_in, tag_in}
 use Rattle.string_dv_dict_unpack.specs.declared.Unpacked.{Unpacked}
 use Rattle.string_dv_dict_unpack.specs.declared.Unpacked.TheVariants.{Lengths, Refused}
 
-abbrev pub unpackRefusal : Bytes → ℕ → Option Refusal
-unpackRefusal form room =
-    cond (ltb packedLimit (length form)) (some TooLong)
+abbrev pub unpack_refusal : Bytes → ℕ → Option Refusal
+unpack_refusal form room =
+    cond (ltb packed_limit (length form)) (some TooLong)
     (cond (not (accepted form)) (some CutForm)
-    (cond (ltb room (length (textIn form) + length (tagIn form))) (some ShortBuffer) none))
+    (cond (ltb room (length (text_in form) + length (tag_in form))) (some ShortBuffer) none))
 
-abbrev pub unpackedBy : Bytes → Bytes → Option Refusal → Unpacked
-unpackedBy text tag none = Lengths (length text) (length tag)
-unpackedBy text tag (some why) = Refused why
+abbrev pub unpacked_by : Bytes → Bytes → Option Refusal → Unpacked
+unpacked_by text tag none = Lengths (length text) (length tag)
+unpacked_by text tag (some why) = Refused why
 
-unfoldable pub unpackAnswer : Bytes → ℕ → Unpacked
-unpackAnswer form room = unpackedBy (textIn form) (tagIn form) (unpackRefusal form room)
+unfoldable pub unpack_answer : Bytes → ℕ → Unpacked
+unpack_answer form room = unpacked_by (text_in form) (tag_in form) (unpack_refusal form room)
 
 -- Text before tag.
-unfoldable pub unpackBuffer : Bytes → Bytes → Bytes
-unpackBuffer form buffer = placedBy (textIn form ++ tagIn form) buffer (unpackRefusal form (length buffer))
+unfoldable pub unpack_buffer : Bytes → Bytes → Bytes
+unpack_buffer form buffer = placed_by (text_in form ++ tag_in form) buffer (unpack_refusal form (length buffer))

@@ -3,10 +3,10 @@
 
 ghost use Rattle.std.specs.Prelude.{◌≡◌, true, false, ◌+◌, ◌≤◌, length};
 ghost use Rattle.std.proofs.lemmas.List.Edits.{sets};
-ghost use Rattle.layout.specs.Sizes.{packedLimit};
+ghost use Rattle.layout.specs.Sizes.{packed_limit};
 ghost use Rattle.string_dv_dict_split.specs.Forms.{accepted, unescape, unescaped};
 ghost use Rattle.string_dv_dict_split.specs.Scans.{ShortForm, LongForm};
-ghost use Rattle.string_dv_dict_unpack.specs.Answers.{unpackAnswer, unpackBuffer};
+ghost use Rattle.string_dv_dict_unpack.specs.Answers.{unpack_answer, unpack_buffer};
 
 use layout::Sizes;
 use parts::Mode;
@@ -52,8 +52,8 @@ pub fn write_unescaped(s: &[u8], dst: &mut [u8], start: usize)
 }
 
 fn unpack_short(form: &[u8], n: usize, buffer: &mut [u8]) -> Unpacked
-    requires { (length form.now ≤ packedLimit) × (accepted form.now ≡ true) × ShortForm form.now n }
-    ensures { (result ≡ unpackAnswer form.now (length buffer.old)) × (buffer.new ≡ unpackBuffer form.now buffer.old) }
+    requires { (length form.now ≤ packed_limit) × (accepted form.now ≡ true) × ShortForm form.now n }
+    ensures { (result ≡ unpack_answer form.now (length buffer.old)) × (buffer.new ≡ unpack_buffer form.now buffer.old) }
 {
     let text = &form[n + 1..];
     let m = text.len();
@@ -66,8 +66,8 @@ fn unpack_short(form: &[u8], n: usize, buffer: &mut [u8]) -> Unpacked
 }
 
 fn unpack_long(form: &[u8], end: usize, n: usize, buffer: &mut [u8]) -> Unpacked
-    requires { (length form.now ≤ packedLimit) × (accepted form.now ≡ true) × LongForm form.now end n }
-    ensures { (result ≡ unpackAnswer form.now (length buffer.old)) × (buffer.new ≡ unpackBuffer form.now buffer.old) }
+    requires { (length form.now ≤ packed_limit) × (accepted form.now ≡ true) × LongForm form.now end n }
+    ensures { (result ≡ unpack_answer form.now (length buffer.old)) × (buffer.new ≡ unpack_buffer form.now buffer.old) }
 {
     let text = &form[end + 2..];
     let m = text.len();
@@ -81,7 +81,7 @@ fn unpack_long(form: &[u8], end: usize, n: usize, buffer: &mut [u8]) -> Unpacked
 
 // Unpacks a form: the text at the buffer's start, the tag behind it.
 pub fn one_string_to_two(form: &[u8], buffer: &mut [u8]) -> Unpacked
-    ensures { (result ≡ unpackAnswer form.now (length buffer.old)) × (buffer.new ≡ unpackBuffer form.now buffer.old) }
+    ensures { (result ≡ unpack_answer form.now (length buffer.old)) × (buffer.new ≡ unpack_buffer form.now buffer.old) }
 {
     if Sizes::PACKED_LIMIT < form.len() {
         return Unpacked::Refused(Refusal::TooLong);

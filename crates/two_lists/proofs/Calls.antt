@@ -16,7 +16,7 @@ use Rattle.model.specs.Names.{Name, size}
 use Rattle.model.specs.Answers.{AddAnswer, FindAnswer, ReadAnswer, CountAnswer}
 use Rattle.model.specs.State.{State, number_of, name_of}
 use Rattle.model.specs.Good.{Good}
-use Rattle.model.specs.Calls.{Event, add, find, read, count, Effect, fresh, known, no-effect, effect, effects, At, Gave, Accepted, Before, nothing, beforeOf, Given, Issued, freshKinds, Demand3}
+use Rattle.model.specs.Calls.{Event, add, find, read, count, Effect, fresh, known, no-effect, effect, effects, At, Gave, Accepted, Before, nothing, before_of, Given, Issued, fresh_kinds, Demand3}
 use Rattle.model.proofs.Numbers.{read_back, number-back}
 use Rattle.two_lists.specs.Calls.{Call, call_of, SameCalls, AtBoth, IsRefused, RefusedAlike, LookedUp, SameAnswers}
 use Rattle.two_lists.proofs.Stepwise.{older, given?}
@@ -118,8 +118,8 @@ module _ (o : Before) (L : LookedUp o) (es fs : List Event) (D : Demand3 o es) (
       go (inr never) =
           let p : r ≡ AddAnswer.fresh m = D.first xs a r m c g never in
           let p' : q ≡ AddAnswer.fresh n = E.first ys a q n d k (rw h at never) in
-          let u : o.rule (freshKinds (effects xs)) a.kind ≡ some m = D.in_order xs a m (rw p at c) in
-          let v : o.rule (freshKinds (effects xs)) a.kind ≡ some n = rw h (E.in_order ys a n (rw p' at d)) in
+          let u : o.rule (fresh_kinds (effects xs)) a.kind ≡ some m = D.in_order xs a m (rw p at c) in
+          let v : o.rule (fresh_kinds (effects xs)) a.kind ≡ some n = rw h (E.in_order ys a n (rw p' at d)) in
           let w : m ≡ n = cc in
           p ∙ ap AddAnswer.fresh w ∙ sym p'
 
@@ -154,7 +154,7 @@ pub nothing-looked-up : (s : Sizes) → LookedUp (nothing s)
 nothing-looked-up s = record { number = λ a. inr (λ n g. g); name = λ n. inr (λ a g. g) }
 
 -- Before a list from a good state there was what the state has.
-pub state-looked-up : (s : Sizes) (st : State) → Good s st → LookedUp (beforeOf s st)
+pub state-looked-up : (s : Sizes) (st : State) → Good s st → LookedUp (before_of s st)
 state-looked-up s st G = record { number = λ a. by_name a (number_of s st a) refl; name = λ n. by_number n (name_of s st n) refl }
   where
     by_name : (a : Name) (o : Option ℕ) → number_of s st a ≡ o → ((n : ℕ) × (number_of s st a ≡ some n)) ⊎ ((n : ℕ) → ¬ (number_of s st a ≡ some n))

@@ -15,9 +15,9 @@ use Rattle.refusals.specs.declared.Refusal.TheVariants.{NoPage}
 use Rattle.layout.specs.Sizes.{kinds}
 use Rattle.model.specs.Names.{Name, size}
 use Rattle.model.specs.Answers.{AddAnswer, FindAnswer, ReadAnswer, CountAnswer}
-use Rattle.model.specs.Calls.{Event, add, find, read, count, effects, At, Before, Given, Issued, freshKinds, Demand3}
+use Rattle.model.specs.Calls.{Event, add, find, read, count, effects, At, Before, Given, Issued, fresh_kinds, Demand3}
 use Rattle.two_lists.specs.Calls.{call_of, LookedUp}
-use Rattle.two_lists.specs.Refused.{byRule, NotGiven, countedBy, Refusals, HasNoPage}
+use Rattle.two_lists.specs.Refused.{by_rule, NotGiven, counted_by, Refusals, HasNoPage}
 use Rattle.two_lists.proofs.Stepwise.{given?}
 use Rattle.two_lists.proofs.Calls.{issued?, add-call, find-call, read-call, count-call, finds-same, reads_same, counts_same}
 
@@ -27,24 +27,24 @@ module _ (e : ℕ) (illegal : Name → Option Refusal) (o : Before) (L : LookedU
   next-add : (a : Name) (r q : AddAnswer) → At (add a r) xs es → At (add a q) xs fs → (r ≡ q) ⊎ ((r ≡ AddAnswer.refused NoPage) ⊎ (q ≡ AddAnswer.refused NoPage))
   next-add a r q c d = checked (illegal a) refl
     where
-      roomy : (r ≡ AddAnswer.refused NoPage) ⊎ (r ≡ byRule (o.rule (freshKinds (effects xs)) a.kind))
-          → (q ≡ AddAnswer.refused NoPage) ⊎ (q ≡ byRule (o.rule (freshKinds (effects xs)) a.kind))
+      roomy : (r ≡ AddAnswer.refused NoPage) ⊎ (r ≡ by_rule (o.rule (fresh_kinds (effects xs)) a.kind))
+          → (q ≡ AddAnswer.refused NoPage) ⊎ (q ≡ by_rule (o.rule (fresh_kinds (effects xs)) a.kind))
           → (r ≡ q) ⊎ ((r ≡ AddAnswer.refused NoPage) ⊎ (q ≡ AddAnswer.refused NoPage))
       roomy (inl x) y = inr (inl x)
       roomy (inr x) (inl y) = inr (inr y)
       roomy (inr x) (inr y) = inl (x ∙ sym y)
 
-      listed : illegal a ≡ none → NotGiven o a xs → Split (ltb (countedBy o a.kind xs) e)
+      listed : illegal a ≡ none → NotGiven o a xs → Split (ltb (counted_by o a.kind xs) e)
           → (r ≡ q) ⊎ ((r ≡ AddAnswer.refused NoPage) ⊎ (q ≡ AddAnswer.refused NoPage))
-      listed i never (inl p) = let l = ltb-true (countedBy o a.kind xs) e p in roomy (R.add-room xs a r c i never l) (Q.add-room xs a q d i never l)
+      listed i never (inl p) = let l = ltb-true (counted_by o a.kind xs) e p in roomy (R.add-room xs a r c i never l) (Q.add-room xs a q d i never l)
       listed i never (inr p) =
-          let l : e ≤ countedBy o a.kind xs = omega (arith, ltb-false (countedBy o a.kind xs) e p) in
+          let l : e ≤ counted_by o a.kind xs = omega (arith, ltb-false (counted_by o a.kind xs) e p) in
           inl (R.add-full xs a r c i never l ∙ sym (Q.add-full xs a q d i never l))
 
       looked : illegal a ≡ none → ((n : ℕ) × Given o a n (effects xs)) ⊎ ((n : ℕ) → ¬ Given o a n (effects xs))
           → (r ≡ q) ⊎ ((r ≡ AddAnswer.refused NoPage) ⊎ (q ≡ AddAnswer.refused NoPage))
       looked i (inl g) = inl (R.add-known xs a r g.0 c i g.1 ∙ sym (Q.add-known xs a q g.0 d i g.1))
-      looked i (inr never) = listed i never (split (ltb (countedBy o a.kind xs) e))
+      looked i (inr never) = listed i never (split (ltb (counted_by o a.kind xs) e))
 
       checked : (i : Option Refusal) → illegal a ≡ i → (r ≡ q) ⊎ ((r ≡ AddAnswer.refused NoPage) ⊎ (q ≡ AddAnswer.refused NoPage))
       checked (some why) i = inl (R.add-illegal xs a r why c i ∙ sym (Q.add-illegal xs a q why d i))

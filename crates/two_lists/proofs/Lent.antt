@@ -7,9 +7,9 @@ use mathlib.Core.Option.{Option, none, some}
 use Rattle.refusals.specs.declared.Refusal.{Refusal}
 use Rattle.layout.specs.declared.Sizes.{Sizes}
 use Rattle.layout.specs.Sizes.{limit}
-use Rattle.blocks.specs.Rule.{Grant, grantsOf, blockFor, grantedIn, granted, number_in, blockRule}
+use Rattle.blocks.specs.Rule.{Grant, grants_of, block_for, granted_in, granted, number_in, block_rule}
 use Rattle.model.specs.Names.{Name}
-use Rattle.model.specs.Steps.{shapeRefusal, checks}
+use Rattle.model.specs.Steps.{shape_refusal, checks}
 use Rattle.model.specs.Calls.{Event, At, Before, nothing, Demand3}
 use Rattle.memory.specs.Lists.{Memory}
 use Rattle.memory.proofs.Brought.{StandsIn, runs, brought-demand-3}
@@ -33,10 +33,10 @@ module _ (s : Sizes) (es : List Event) (O : Opened s es) where
 -- ---- sizes that give the same numbers and refuse the same names
 
 module _ (s t : Sizes) (w : s.w ≡ t.w) (b : s.b ≡ t.b) where
-  block_same : (xs : List Grant) (k n : ℕ) → blockFor s xs k n ≡ blockFor t xs k n
+  block_same : (xs : List Grant) (k n : ℕ) → block_for s xs k n ≡ block_for t xs k n
   block_same xs k n = rw (w, b)
 
-  one-more-same : (xs : List Grant) (k : ℕ) (o : Option ℕ) → grantedIn s xs k o ≡ grantedIn t xs k o
+  one-more-same : (xs : List Grant) (k : ℕ) (o : Option ℕ) → granted_in s xs k o ≡ granted_in t xs k o
   one-more-same xs k none = refl
   one-more-same xs k (some g) = rw w
 
@@ -46,17 +46,17 @@ module _ (s t : Sizes) (w : s.w ≡ t.w) (b : s.b ≡ t.b) where
 
   granted-same : (ks : List ℕ) → granted s ks ≡ granted t ks
   granted-same [] = refl
-  granted-same (k ∷ ks) = rw (granted-same ks, block_same (granted t ks) k (grantsOf k (granted t ks))) (one-more-same (granted t ks) k (blockFor t (granted t ks) k (grantsOf k (granted t ks))))
+  granted-same (k ∷ ks) = rw (granted-same ks, block_same (granted t ks) k (grants_of k (granted t ks))) (one-more-same (granted t ks) k (block_for t (granted t ks) k (grants_of k (granted t ks))))
 
-  rule-same : (ks : List ℕ) (k : ℕ) → blockRule s ks k ≡ blockRule t ks k
-  unfolding blockRule
-  rule-same ks k = rw (granted-same ks, block_same (granted t ks) k (grantsOf k (granted t ks))) (number_same (grantsOf k (granted t ks)) (blockFor t (granted t ks) k (grantsOf k (granted t ks))))
+  rule-same : (ks : List ℕ) (k : ℕ) → block_rule s ks k ≡ block_rule t ks k
+  unfolding block_rule
+  rule-same ks k = rw (granted-same ks, block_same (granted t ks) k (grants_of k (granted t ks))) (number_same (grants_of k (granted t ks)) (block_for t (granted t ks) k (grants_of k (granted t ks))))
 
   nothing-same : nothing s ≡ nothing t
   nothing-same = λ i. record { given = λ a n. ⊥; count = λ k. 0; rule = λ ks k. rule-same ks k i }
 
 checks-same : (s t : Sizes) → limit s ≡ limit t → checks s ≡ checks t
-unfolding checks shapeRefusal
+unfolding checks shape_refusal
 checks-same s t l = λ i a. go a i
   where
     go : (a : Name) → checks s a ≡ checks t a

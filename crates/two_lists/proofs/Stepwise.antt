@@ -8,10 +8,10 @@ use mathlib.Core.Option.{some}
 use native.Mathlib.Omega.{arith}
 use Rattle.slices.proofs.Tests.{Split, split, clash}
 use Rattle.layout.specs.declared.Sizes.{Sizes}
-use Rattle.blocks.specs.Rule.{blockRule}
+use Rattle.blocks.specs.Rule.{block_rule}
 use Rattle.model.specs.Names.{Name, same_name}
 use Rattle.model.specs.Answers.{AddAnswer}
-use Rattle.model.specs.Calls.{Event, add, find, read, count, Effect, fresh, known, no-effect, effects, Before, nothing, Given, Issued, freshKinds, Demand3}
+use Rattle.model.specs.Calls.{Event, add, find, read, count, Effect, fresh, known, no-effect, effects, Before, nothing, Given, Issued, fresh_kinds, Demand3}
 use Rattle.model.proofs.Names.{name-true, name-same}
 use Rattle.model.proofs.Lists.{issued-given}
 use Rattle.two_lists.specs.Orders.{Named}
@@ -57,7 +57,7 @@ given? o d a (no-effect ∷ es) = given? o d a es
 abbrev pub Stepwise : Sizes → List Effect → Type 0
 Stepwise s [] = Unit {0}
 Stepwise s (fresh a n ∷ es) =
-    ((b : Name) (m : ℕ) → Given (nothing s) b m es → (a ≢ b) × (n ≢ m)) × (blockRule s (freshKinds es) a.kind ≡ some n) × Stepwise s es
+    ((b : Name) (m : ℕ) → Given (nothing s) b m es → (a ≢ b) × (n ≢ m)) × (block_rule s (fresh_kinds es) a.kind ≡ some n) × Stepwise s es
 Stepwise s (known a n ∷ es) = Given (nothing s) a n es × Stepwise s es
 Stepwise s (no-effect ∷ es) = Stepwise s es
 

@@ -4,7 +4,7 @@ use Rattle.std.specs.Prelude.{ℕ, suc, ◌+◌, ◌*◌, ◌/◌, ◌%◌, ◌^
 use Rattle.layout.specs.declared.Sizes.{Sizes}
 use Rattle.blocks.specs.Rule.{holding, granted}
 use Rattle.model.specs.Names.{Name}
-use Rattle.model.specs.Calls.{Effect, fresh, known, no-effect, nothing, Issued, freshKinds, howMany}
+use Rattle.model.specs.Calls.{Effect, fresh, known, no-effect, nothing, Issued, fresh_kinds, how_many}
 
 -- ---- "with the same set of names"
 
@@ -22,7 +22,7 @@ SameNames xs ys = (a : Name) → Named a xs ↔ Named a ys
 
 -- How many names of the kind k were fresh.
 abbrev pub fresh_of : ℕ → List Effect → ℕ
-fresh_of k es = howMany 0 k (freshKinds es)
+fresh_of k es = how_many 0 k (fresh_kinds es)
 
 -- "The n-th fresh name of a kind, counted from 1, has local number n less one": a is a fresh name, its local number is l, and the number n was issued to it.
 abbrev pub Numbered : Name → ℕ → ℕ → List Effect → Type 0
@@ -33,8 +33,8 @@ Numbered a l n (no-effect ∷ es) = Numbered a l n es
 
 -- "The global number is the global block × 2^w + n modulo 2^w": of the kind k's local number l, in the block that holds its local block after fresh names of
 -- the kinds ks.
-abbrev pub globalIn : Sizes → List ℕ → ℕ → ℕ → ℕ
-globalIn s ks k l = holding (granted s ks) k (l / 2 ^ s.w) * 2 ^ s.w + l % 2 ^ s.w
+abbrev pub global_in : Sizes → List ℕ → ℕ → ℕ → ℕ
+global_in s ks k l = holding (granted s ks) k (l / 2 ^ s.w) * 2 ^ s.w + l % 2 ^ s.w
 
 -- The local numbers of the fresh names of the kind k, in a dictionary of the sizes s.
 pub record LocalNumbers (s : Sizes) (k : ℕ) (es : List Effect) : Type 0 where
@@ -47,7 +47,7 @@ pub record LocalNumbers (s : Sizes) (k : ℕ) (es : List Effect) : Type 0 where
   -- which has no other local number.
   pub one : (a : Name) (l i m n : ℕ) → a.kind ≡ k → Numbered a l m es → Numbered a i n es → l ≡ i
   -- The block rule turns it into the number that was issued.
-  pub issued : (a : Name) (l n : ℕ) → a.kind ≡ k → Numbered a l n es → n ≡ globalIn s (freshKinds es) k l
+  pub issued : (a : Name) (l n : ℕ) → a.kind ≡ k → Numbered a l n es → n ≡ global_in s (fresh_kinds es) k l
 
 -- ---- "just one pairing of the two books' numbers carries each to the number of the same name"
 

@@ -13,8 +13,8 @@ use lib.Seq.{drop-cons}
 use borrow.Author.Tests.{lt-ltb, ltb-true, eqb-true, eqb-false, eq-eqb}
 use Rattle.slices.specs.Bytes.{Bytes}
 use Rattle.slices.proofs.Tests.{Split, split, and_left, and_right, same_test}
-use Rattle.words.specs.Words.{leAt}
-use Rattle.utf8_char.specs.Text.{charStart}
+use Rattle.words.specs.Words.{le_at}
+use Rattle.utf8_char.specs.Text.{char_start}
 use Rattle.utf8.specs.Passing.{ascii, Passed}
 use Rattle.utf8_char.proofs.Bounds.{first_one, text-more}
 
@@ -43,12 +43,12 @@ both_zero w r =
 
 -- No top bit in a word of n bytes: they are ASCII, and the other way round.
 pub masked : (n : ℕ) (s : Bytes) (b : ℕ) → ((k : ℕ) → get_or s k 0 < 256) → b + n ≤ length s
-    → eqb (bit_and (leAt n s b) (mask n)) 0 ≡ ascii (take n (drop b s))
-unfolding leAt
+    → eqb (bit_and (le_at n s b) (mask n)) 0 ≡ ascii (take n (drop b s))
+unfolding le_at
 masked zero s b h f = refl
 masked (suc n) s b h f =
     let x : ℕ = get_or s b 0 in
-    let w : ℕ = leAt n s (suc b) in
+    let w : ℕ = le_at n s (suc b) in
     let p : x + 256 * w ≡ w * 256 + x = omega arith in
     rw (
       p,
@@ -66,7 +66,7 @@ pass_on s i k r p q = (omega arith, q.1, q.2 ∙ p.2)
 
 pub pass-one : (s : Bytes) (i : ℕ) → i < length s → get_or s i 0 < 0x80 → Passed s i (i + 1)
 pass-one s i h p =
-    (omega arith, omega arith, text-more charStart charStart i s h (sym (first_one (get_or s i 0) (omega arith))))
+    (omega arith, omega arith, text-more char_start char_start i s h (sym (first_one (get_or s i 0) (omega arith))))
 
 -- n ASCII bytes from b on, passed from any of them to their end.
 pub pass-run : (n : ℕ) (s : Bytes) (b i : ℕ) → b + n ≤ length s → ascii (take n (drop b s)) ≡ true → b ≤ i → i ≤ b + n

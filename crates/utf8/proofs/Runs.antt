@@ -9,8 +9,8 @@ use Rattle.slices.specs.Bytes.{Bytes}
 use Rattle.slices.proofs.Tests.{and_left, and_right}
 use Rattle.utf8_char.specs.declared.Step.TheVariants.{Due}
 use Rattle.utf8_char.specs.Grammar.{In, Tail}
-use Rattle.utf8_char.specs.Text.{within, charStart, first_of, after, textFrom}
-use Rattle.utf8.specs.Passing.{isTwo, isThree, Passed}
+use Rattle.utf8_char.specs.Text.{within, char_start, first_of, after, text_from}
+use Rattle.utf8.specs.Passing.{is_two, is_three, Passed}
 use Rattle.utf8_char.proofs.Bounds.{inside, bounds, first_two, first-e1-ec, text-more}
 
 -- The n bytes from i on are tail bytes.
@@ -25,7 +25,7 @@ one_less n b p =
     rw (ne_eqb (suc n) 0 (omega arith), inside 0x80 0xBF b p, m)
 
 pass-tails : (n : ℕ) (s : Bytes) (i : ℕ) → i + n ≤ length s → Tails n s i
-    → textFrom charStart (drop (i + n) s) ≡ textFrom (Due n 0x80 0xBF) (drop i s)
+    → text_from char_start (drop (i + n) s) ≡ text_from (Due n 0x80 0xBF) (drop i s)
 pass-tails zero s i h t = let p : i + 0 ≡ i = omega arith in rw p
 pass-tails (suc n) s i h t =
     let p : i + suc n ≡ i + 1 + n = omega arith in
@@ -38,7 +38,7 @@ pass-char : (n : ℕ) (s : Bytes) (i : ℕ) → i + suc n ≤ length s → first
     → Passed s i (i + suc n)
 pass-char n s i h e t =
     let p : i + suc n ≡ i + 1 + n = omega arith in
-    let q = text-more charStart (Due n 0x80 0xBF) i s (omega arith) (sym e) in
+    let q = text-more char_start (Due n 0x80 0xBF) i s (omega arith) (sym e) in
     (omega arith, h, rw p (pass-tails n s (i + 1) (omega arith) t ∙ q))
 
 -- What the tests say, whatever the bounds of the first byte.
@@ -55,12 +55,12 @@ three-in lo hi a b c e =
     let r = two_in lo hi a b (and_left p q e) in
     (r.0, r.1, bounds 0x80 0xBF c (and_right p q e))
 
-pub pass-two : (s : Bytes) (i : ℕ) → i + 2 ≤ length s → isTwo (get_or s i 0) (get_or s (i + 1) 0) ≡ true → Passed s i (i + 2)
+pub pass-two : (s : Bytes) (i : ℕ) → i + 2 ≤ length s → is_two (get_or s i 0) (get_or s (i + 1) 0) ≡ true → Passed s i (i + 2)
 pass-two s i h e =
     let t = two_in _ _ (get_or s i 0) (get_or s (i + 1) 0) e in
     pass-char 1 s i h (first_two _ t.0) (t.1, tt)
 
-pub pass-three : (s : Bytes) (i : ℕ) → i + 3 ≤ length s → isThree (get_or s i 0) (get_or s (i + 1) 0) (get_or s (i + 2) 0) ≡ true
+pub pass-three : (s : Bytes) (i : ℕ) → i + 3 ≤ length s → is_three (get_or s i 0) (get_or s (i + 1) 0) (get_or s (i + 2) 0) ≡ true
     → Passed s i (i + 3)
 pass-three s i h e =
     let t = three-in _ _ (get_or s i 0) (get_or s (i + 1) 0) (get_or s (i + 2) 0) e in

@@ -10,12 +10,12 @@ ascii [] = true
 ascii (b ∷ s) = ltb b 0x80 && ascii s
 
 -- A character of two bytes.
-abbrev pub isTwo : ℕ → ℕ → Bool
-isTwo a b = within 0xC2 0xDF a && within 0x80 0xBF b
+abbrev pub is_two : ℕ → ℕ → Bool
+is_two a b = within 0xC2 0xDF a && within 0x80 0xBF b
 
 -- A character of three bytes with a first byte from E1 to EC, which allows all tail bytes.
-abbrev pub isThree : ℕ → ℕ → ℕ → Bool
-isThree a b c = within 0xE1 0xEC a && within 0x80 0xBF b && within 0x80 0xBF c
+abbrev pub is_three : ℕ → ℕ → ℕ → Bool
+is_three a b c = within 0xE1 0xEC a && within 0x80 0xBF b && within 0x80 0xBF c
 
 -- A pass from i to r: the bytes from r on are text exactly if those from i on are.
 abbrev pub Passed : Bytes → ℕ → ℕ → Type 0

@@ -2,8 +2,8 @@
 #![tactic(auto)]
 
 ghost use Rattle.std.specs.Prelude.{◌≡◌, ◌+◌, ◌≤◌, length, take, drop};
-ghost use Rattle.utf8_char.specs.Text.{within, isText};
-ghost use Rattle.utf8.specs.Passing.{ascii, isTwo, isThree, Passed};
+ghost use Rattle.utf8_char.specs.Text.{within, is_text};
+ghost use Rattle.utf8.specs.Passing.{ascii, is_two, is_three, Passed};
 
 use utf8_char::End;
 use words::TOP_BITS;
@@ -72,14 +72,14 @@ fn is_within(lo: u8, hi: u8, b: u8) -> bool
 
 // Whether two bytes are a character: first bytes C2 to DF have one tail byte.
 fn is_two(a: u8, b: u8) -> bool
-    ensures { result ≡ isTwo a b }
+    ensures { result ≡ is_two a b }
 {
     is_within(0xC2, 0xDF, a) && is_within(0x80, 0xBF, b)
 }
 
 // Whether three bytes are a character with a first byte from E1 to EC. These first bytes allow all tail bytes from 80 to BF.
 fn is_three(a: u8, b: u8, c: u8) -> bool
-    ensures { result ≡ isThree a b c }
+    ensures { result ≡ is_three a b c }
 {
     is_within(0xE1, 0xEC, a) && is_within(0x80, 0xBF, b) && is_within(0x80, 0xBF, c)
 }
@@ -118,7 +118,7 @@ fn pass_threes(s: &[u8], i: usize) -> usize
 
 // Whether `s` is text.
 pub fn is_text(s: &[u8]) -> bool
-    ensures { result ≡ isText s.now }
+    ensures { result ≡ is_text s.now }
 {
     // Many names have an empty second part.
     if s.len() == 0 {

@@ -6,7 +6,7 @@ use mathlib.Core.List.{[], ◌∷◌}
 use native.Mathlib.Numerals.{add-one}
 use native.Mathlib.Omega.{arith}
 use lib.Dec.{leb, eqb}
-use lib.ListN.{length, get_or, drop, drop_of_length-le}
+use lib.ListN.{length, get_or, drop}
 use lib.Seq.{drop-cons}
 use borrow.Author.Tests.{le-leb, lt-leb, leb-true, ne_eqb}
 use Rattle.slices.specs.Bytes.{Bytes}
@@ -14,7 +14,7 @@ use Rattle.slices.proofs.Tests.{and_left, and_right}
 use Rattle.utf8_char.specs.declared.Step.{Step}
 use Rattle.utf8_char.specs.declared.Step.TheVariants.{Due, Bad}
 use Rattle.utf8_char.specs.Grammar.{In}
-use Rattle.utf8_char.specs.Text.{within, charStart, first_of, after, noneDue, textFrom}
+use Rattle.utf8_char.specs.Text.{within, char_start, first_of, after, text_from}
 
 -- ---- the test of bounds
 
@@ -37,7 +37,7 @@ bounds lo hi b e =
 
 -- ---- the first byte of a character
 
-pub first_one : (b : ℕ) → In 0x00 0x7F b → first_of b ≡ charStart
+pub first_one : (b : ℕ) → In 0x00 0x7F b → first_of b ≡ char_start
 unfolding first_of
 first_one b p = rw (inside 0x00 0x7F b p)
 
@@ -118,17 +118,17 @@ pub choose : (P : Step → Type 0) (t : Bool) {x y : Step} → (t ≡ true → P
 choose P true f q = f refl
 choose P false f q = q
 
-pub bad-stays : (s : Bytes) → textFrom Bad s ≡ false
+pub bad-stays : (s : Bytes) → text_from Bad s ≡ false
 bad-stays [] = refl
 bad-stays (b ∷ s) = bad-stays s
 
 pub text-more : (x y : Step) (i : ℕ) (s : Bytes) → i < length s → y ≡ after x (get_or s i 0)
-    → textFrom y (drop (i + 1) s) ≡ textFrom x (drop i s)
+    → text_from y (drop (i + 1) s) ≡ text_from x (drop i s)
 text-more x y i s h e = rw (e, add-one, drop-cons s i 0)
 
 -- With nothing due it is no matter what would be.
-pub none-due : (n lo hi : ℕ) → eqb n 0 ≡ true → (s : Bytes) → textFrom (Due n lo hi) s ≡ textFrom charStart s
+pub none-due : (n lo hi : ℕ) → eqb n 0 ≡ true → (s : Bytes) → text_from (Due n lo hi) s ≡ text_from char_start s
 none-due n lo hi e [] = e
 none-due n lo hi e (b ∷ s) =
     let p : after (Due n lo hi) b ≡ first_of b = rw e in
-    ap (λ (x : Step). textFrom x s) p
+    ap (λ (x : Step). text_from x s) p

@@ -11,7 +11,7 @@ use Rattle.slices.proofs.Tests.{clash}
 use Rattle.utf8_char.specs.declared.Step.{Step}
 use Rattle.utf8_char.specs.declared.Step.TheVariants.{Due, Bad}
 use Rattle.utf8_char.specs.Grammar.{In, Tail, Char, one, two, three-e0, three-e1-ec, three-ed, three-ee-ef, four-f0, four-f1-f3, four-f4, Octets, none, more}
-use Rattle.utf8_char.specs.Text.{within, charStart, first_of, after, textFrom, isText}
+use Rattle.utf8_char.specs.Text.{within, char_start, first_of, after, text_from, is_text}
 use Rattle.utf8_char.proofs.Bounds.{inside, below, above, bounds, first_one, first_two, first-e1-ec, first-ee-ef, first-f1-f3, choose, bad-stays}
 
 -- ---- accepted, so derived
@@ -35,11 +35,11 @@ then-four : {a lo hi : ℕ} {s : Bytes} → ((b c d : ℕ) → In lo hi b → Ta
     → Rest 3 lo hi s → Octets (a ∷ s)
 then-four f (tail q (tail u (tail v (whole r)))) = more (f _ _ _ q u v) r
 
-begins : (b : ℕ) (s : Bytes) → ((n lo hi : ℕ) → textFrom (Due n lo hi) s ≡ true → Rest n lo hi s)
-    → textFrom (first_of b) s ≡ true → Octets (b ∷ s)
+begins : (b : ℕ) (s : Bytes) → ((n lo hi : ℕ) → text_from (Due n lo hi) s ≡ true → Rest n lo hi s)
+    → text_from (first_of b) s ≡ true → Octets (b ∷ s)
 unfolding first_of
 begins b s ih =
-    let P : Step → Type 0 = λ x. textFrom x s ≡ true → Octets (b ∷ s) in
+    let P : Step → Type 0 = λ x. text_from x s ≡ true → Octets (b ∷ s) in
     choose P (within 0x00 0x7F b) (λ p e. then_one (bounds _ _ _ p) (ih _ _ _ e))
     (choose P (within 0xC2 0xDF b) (λ p e. then-two (bounds _ _ _ p) (ih _ _ _ e))
     (choose P (eqb b 0xE0) (λ p e. rw (eqb-true b 0xE0 p) (then-three (λ b c. three-e0) (ih _ _ _ e)))
@@ -51,15 +51,15 @@ begins b s ih =
     (choose P (eqb b 0xF4) (λ p e. rw (eqb-true b 0xF4 p) (then-four (λ b c d. four-f4) (ih _ _ _ e)))
     (λ e. clash e (bad-stays s))))))))))
 
-goes_on : (n lo hi b : ℕ) (s : Bytes) → (textFrom (Due n 0x80 0xBF) s ≡ true → Rest n 0x80 0xBF s)
-    → textFrom (Due (suc n) lo hi) (b ∷ s) ≡ true → Rest (suc n) lo hi (b ∷ s)
+goes_on : (n lo hi b : ℕ) (s : Bytes) → (text_from (Due n 0x80 0xBF) s ≡ true → Rest n 0x80 0xBF s)
+    → text_from (Due (suc n) lo hi) (b ∷ s) ≡ true → Rest (suc n) lo hi (b ∷ s)
 goes_on n lo hi b s ih e =
-    let P : Step → Type 0 = λ x. textFrom x s ≡ true → Rest (suc n) lo hi (b ∷ s) in
+    let P : Step → Type 0 = λ x. text_from x s ≡ true → Rest (suc n) lo hi (b ∷ s) in
     let m : suc n - 1 ≡ n = omega arith in
     choose P (within lo hi b) (λ p f. tail (bounds lo hi b p) (ih (rw m at f))) (λ f. clash f (bad-stays s))
     (rw (ne_eqb (suc n) 0 (omega arith)) at e)
 
-derives-from : (s : Bytes) (n lo hi : ℕ) → textFrom (Due n lo hi) s ≡ true → Rest n lo hi s
+derives-from : (s : Bytes) (n lo hi : ℕ) → text_from (Due n lo hi) s ≡ true → Rest n lo hi s
 derives-from [] zero lo hi e = whole none
 derives-from [] (suc n) lo hi e = let z : suc n ≡ 0 = eqb-true (suc n) 0 e in absurd (omega arith)
 derives-from (b ∷ s) zero lo hi e = whole (begins b s (derives-from s) e)
@@ -68,40 +68,40 @@ derives-from (b ∷ s) (suc n) lo hi e = goes_on n lo hi b s (derives-from s n 0
 octets : {s : Bytes} → Rest 0 0x80 0xBF s → Octets s
 octets (whole r) = r
 
-pub derives : (s : Bytes) → isText s ≡ true → Octets s
-unfolding isText
+pub derives : (s : Bytes) → is_text s ≡ true → Octets s
+unfolding is_text
 derives s e = octets (derives-from s 0 0x80 0xBF e)
 
 -- ---- derived, so accepted
 
-tail-1 : (lo hi b : ℕ) → In lo hi b → after (Due 1 lo hi) b ≡ charStart
+tail-1 : (lo hi b : ℕ) → In lo hi b → after (Due 1 lo hi) b ≡ char_start
 tail-1 lo hi b q = rw (inside lo hi b q)
 
-tail-2 : (lo hi b c : ℕ) → In lo hi b → Tail c → after (after (Due 2 lo hi) b) c ≡ charStart
+tail-2 : (lo hi b c : ℕ) → In lo hi b → Tail c → after (after (Due 2 lo hi) b) c ≡ char_start
 tail-2 lo hi b c q u = rw (inside lo hi b q) (tail-1 0x80 0xBF c u)
 
-tail-3 : (lo hi b c d : ℕ) → In lo hi b → Tail c → Tail d → after (after (after (Due 3 lo hi) b) c) d ≡ charStart
+tail-3 : (lo hi b c d : ℕ) → In lo hi b → Tail c → Tail d → after (after (after (Due 3 lo hi) b) c) d ≡ char_start
 tail-3 lo hi b c d q u v = rw (inside lo hi b q) (tail-2 0x80 0xBF c d u v)
 
 -- A character leaves nothing due.
-pub char-text : {c : Bytes} → Char c → (s : Bytes) → isText (c ++ s) ≡ isText s
-unfolding isText first_of
-char-text (one {a} p) s = ap (λ (x : Step). textFrom x s) (first_one a p)
-char-text (two {a} {b} p q) s = ap (λ (x : Step). textFrom x s) (ap (λ (x : Step). after x b) (first_two a p) ∙ tail-1 _ _ b q)
-char-text (three-e0 {b} {c} q u) s = ap (λ (x : Step). textFrom x s) (tail-2 0xA0 0xBF b c q u)
+pub char-text : {c : Bytes} → Char c → (s : Bytes) → is_text (c ++ s) ≡ is_text s
+unfolding is_text first_of
+char-text (one {a} p) s = ap (λ (x : Step). text_from x s) (first_one a p)
+char-text (two {a} {b} p q) s = ap (λ (x : Step). text_from x s) (ap (λ (x : Step). after x b) (first_two a p) ∙ tail-1 _ _ b q)
+char-text (three-e0 {b} {c} q u) s = ap (λ (x : Step). text_from x s) (tail-2 0xA0 0xBF b c q u)
 char-text (three-e1-ec {a} {b} {c} p q u) s =
-    ap (λ (x : Step). textFrom x s) (ap (λ (x : Step). after (after x b) c) (first-e1-ec a p) ∙ tail-2 _ _ b c q u)
-char-text (three-ed {b} {c} q u) s = ap (λ (x : Step). textFrom x s) (tail-2 0x80 0x9F b c q u)
+    ap (λ (x : Step). text_from x s) (ap (λ (x : Step). after (after x b) c) (first-e1-ec a p) ∙ tail-2 _ _ b c q u)
+char-text (three-ed {b} {c} q u) s = ap (λ (x : Step). text_from x s) (tail-2 0x80 0x9F b c q u)
 char-text (three-ee-ef {a} {b} {c} p q u) s =
-    ap (λ (x : Step). textFrom x s) (ap (λ (x : Step). after (after x b) c) (first-ee-ef a p) ∙ tail-2 _ _ b c q u)
-char-text (four-f0 {b} {c} {d} q u v) s = ap (λ (x : Step). textFrom x s) (tail-3 0x90 0xBF b c d q u v)
+    ap (λ (x : Step). text_from x s) (ap (λ (x : Step). after (after x b) c) (first-ee-ef a p) ∙ tail-2 _ _ b c q u)
+char-text (four-f0 {b} {c} {d} q u v) s = ap (λ (x : Step). text_from x s) (tail-3 0x90 0xBF b c d q u v)
 char-text (four-f1-f3 {a} {b} {c} {d} p q u v) s =
-    ap (λ (x : Step). textFrom x s)
+    ap (λ (x : Step). text_from x s)
     (ap (λ (x : Step). after (after (after x b) c) d) (first-f1-f3 a p) ∙ tail-3 _ _ b c d q u v)
-char-text (four-f4 {b} {c} {d} q u v) s = ap (λ (x : Step). textFrom x s) (tail-3 0x80 0x8F b c d q u v)
+char-text (four-f4 {b} {c} {d} q u v) s = ap (λ (x : Step). text_from x s) (tail-3 0x80 0x8F b c d q u v)
 
-pub derived-is-text : {s : Bytes} → Octets s → isText s ≡ true
-unfolding isText
+pub derived-is-text : {s : Bytes} → Octets s → is_text s ≡ true
+unfolding is_text
 derived-is-text none = refl
 derived-is-text (more {c} {s} h r) = char-text h s ∙ derived-is-text r
 
@@ -109,8 +109,8 @@ derived-is-text (more {c} {s} h r) = char-text h s ∙ derived-is-text r
 
 -- Bytes that no character begins with derive nothing, whatever follows.
 refused : (a b : ℕ) (s : Bytes) → after (first_of a) b ≡ Bad → Octets (a ∷ b ∷ s) → ⊥
-unfolding isText
-refused a b s e o = false≢true (sym (ap (λ (x : Step). textFrom x s) e ∙ bad-stays s) ∙ derived-is-text o)
+unfolding is_text
+refused a b s e o = false≢true (sym (ap (λ (x : Step). text_from x s) e ∙ bad-stays s) ∙ derived-is-text o)
 
 -- U+D800 to U+DFFF.
 pub no_surrogate : (b : ℕ) (s : Bytes) → 0xA0 ≤ b → Octets (0xED ∷ b ∷ s) → ⊥

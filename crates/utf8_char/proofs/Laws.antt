@@ -9,14 +9,14 @@ use Rattle.slices.specs.Bytes.{Bytes}
 use Rattle.slices.proofs.Tests.{Split, split}
 use Rattle.utf8_char.specs.declared.Step.{Step}
 use Rattle.utf8_char.specs.declared.Step.TheVariants.{Due, Bad}
-use Rattle.utf8_char.specs.Text.{within, charStart, first_of, after, textFrom, isText}
+use Rattle.utf8_char.specs.Text.{within, char_start, first_of, after, text_from, is_text}
 use Rattle.utf8_char.proofs.Bounds.{below, first_one, choose}
 
 -- ---- some bytes written as two
 
-abbrev pub eachAs : (ℕ → Bytes) → Bytes → Bytes
-eachAs f [] = []
-eachAs f (b ∷ s) = f b ++ eachAs f s
+abbrev pub each_as : (ℕ → Bytes) → Bytes → Bytes
+each_as f [] = []
+each_as f (b ∷ s) = f b ++ each_as f s
 
 -- How f may write the byte b: as itself, or, where it is a character of its own, as two such characters.
 pub data WrittenAs (f : ℕ → Bytes) (b : ℕ) : Type 0 where
@@ -55,18 +55,18 @@ single (Due n lo hi) h b y z p q r = go (split (eqb n 0))
     go (inr e) = rw (e, below lo hi y (omega arith), below lo hi b (omega arith))
 
 written_from : (f : ℕ → Bytes) → ((b : ℕ) → WrittenAs f b) → (t : Bytes) (x : Step) → High x
-    → textFrom x (eachAs f t) ≡ textFrom x t
+    → text_from x (each_as f t) ≡ text_from x t
 written_from f w [] x h = refl
 written_from f w (b ∷ t) x h = go (w b) (written_from f w t (after x b) (high_after x b))
   where
-    go : WrittenAs f b → textFrom (after x b) (eachAs f t) ≡ textFrom (after x b) t
-        → textFrom x (f b ++ eachAs f t) ≡ textFrom (after x b) t
-    go (as-itself e) ih = ap (λ (l : Bytes). textFrom x (l ++ eachAs f t)) e ∙ ih
+    go : WrittenAs f b → text_from (after x b) (each_as f t) ≡ text_from (after x b) t
+        → text_from x (f b ++ each_as f t) ≡ text_from (after x b) t
+    go (as-itself e) ih = ap (λ (l : Bytes). text_from x (l ++ each_as f t)) e ∙ ih
     go (as-two y z p q r e) ih =
-        ap (λ (l : Bytes). textFrom x (l ++ eachAs f t)) e
-        ∙ ap (λ (m : Step). textFrom m (eachAs f t)) (single x h b y z p q r)
+        ap (λ (l : Bytes). text_from x (l ++ each_as f t)) e
+        ∙ ap (λ (m : Step). text_from m (each_as f t)) (single x h b y z p q r)
         ∙ ih
 
-pub text-written : (f : ℕ → Bytes) → ((b : ℕ) → WrittenAs f b) → (t : Bytes) → isText (eachAs f t) ≡ isText t
-unfolding isText
-text-written f w t = written_from f w t charStart (omega arith)
+pub text-written : (f : ℕ → Bytes) → ((b : ℕ) → WrittenAs f b) → (t : Bytes) → is_text (each_as f t) ≡ is_text t
+unfolding is_text
+text-written f w t = written_from f w t char_start (omega arith)

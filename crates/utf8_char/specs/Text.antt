@@ -7,13 +7,13 @@ use Rattle.utf8_char.specs.declared.Step.{Step}
 use Rattle.utf8_char.specs.declared.Step.TheVariants.{Due, Bad}
 
 -- `Due n lo hi`: n tail bytes of a character are due, and the next one must be from lo to hi. Between two characters none is due.
-abbrev pub charStart : Step
-charStart = Due 0 0x80 0xBF
+abbrev pub char_start : Step
+char_start = Due 0 0x80 0xBF
 
 -- What the first byte of a character leaves due.
 unfoldable pub first_of : ℕ → Step
 first_of b =
-    cond (within 0x00 0x7F b) charStart
+    cond (within 0x00 0x7F b) char_start
     (cond (within 0xC2 0xDF b) (Due 1 0x80 0xBF)
     (cond (eqb b 0xE0) (Due 2 0xA0 0xBF)
     (cond (within 0xE1 0xEC b) (Due 2 0x80 0xBF)
@@ -28,14 +28,14 @@ abbrev pub after : Step → ℕ → Step
 after Bad b = Bad
 after (Due n lo hi) b = cond (eqb n 0) (first_of b) (cond (within lo hi b) (Due (n - 1) 0x80 0xBF) Bad)
 
-abbrev pub noneDue : Step → Bool
-noneDue Bad = false
-noneDue (Due n lo hi) = eqb n 0
+abbrev pub none_due : Step → Bool
+none_due Bad = false
+none_due (Due n lo hi) = eqb n 0
 
 -- The bytes complete the character that has begun, and what follows it is text.
-abbrev pub textFrom : Step → Bytes → Bool
-textFrom x [] = noneDue x
-textFrom x (b ∷ s) = textFrom (after x b) s
+abbrev pub text_from : Step → Bytes → Bool
+text_from x [] = none_due x
+text_from x (b ∷ s) = text_from (after x b) s
 
-unfoldable pub isText : Bytes → Bool
-isText s = textFrom charStart s
+unfoldable pub is_text : Bytes → Bool
+is_text s = text_from char_start s

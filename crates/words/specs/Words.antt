@@ -9,18 +9,18 @@ le zero x = []
 le (suc n) x = x % 256 ∷ le n (x / 256)
 
 -- The number in the n bytes from b on.
-unfoldable pub leAt : ℕ → Bytes → ℕ → ℕ
-leAt zero s b = 0
-leAt (suc n) s b = get_or s b 0 + 256 * leAt n s (suc b)
+unfoldable pub le_at : ℕ → Bytes → ℕ → ℕ
+le_at zero s b = 0
+le_at (suc n) s b = get_or s b 0 + 256 * le_at n s (suc b)
 
-unfoldable pub wordAt : Bytes → ℕ → ℕ
-wordAt s i = leAt 8 s (8 * i)
+unfoldable pub word_at : Bytes → ℕ → ℕ
+word_at s i = le_at 8 s (8 * i)
 
-unfoldable pub setWord : Bytes → ℕ → ℕ → Bytes
-setWord s i x = sets s (8 * i) (le 8 x)
+unfoldable pub set_word : Bytes → ℕ → ℕ → Bytes
+set_word s i x = sets s (8 * i) (le 8 x)
 
-unfoldable pub quadAt : Bytes → ℕ → ℕ
-quadAt s i = leAt 4 s (4 * i)
+unfoldable pub quad_at : Bytes → ℕ → ℕ
+quad_at s i = le_at 4 s (4 * i)
 
-unfoldable pub setQuad : Bytes → ℕ → ℕ → Bytes
-setQuad s i x = sets s (4 * i) (le 4 x)
+unfoldable pub set_quad : Bytes → ℕ → ℕ → Bytes
+set_quad s i x = sets s (4 * i) (le 4 x)

@@ -3,7 +3,7 @@
 #![tactic(auto)]
 
 ghost use Rattle.std.specs.Prelude.{◌≡◌, ◌+◌, ◌*◌, ◌≤◌, ◌<◌, length};
-ghost use Rattle.words.specs.Words.{leAt, wordAt, setWord, quadAt, setQuad};
+ghost use Rattle.words.specs.Words.{le_at, word_at, set_word, quad_at, set_quad};
 
 // The top bit of each byte of a word.
 pub const TOP_BITS: usize = 0x8080808080808080;
@@ -18,7 +18,7 @@ pub fn wide(x: u8) -> usize
 // The word whose bytes begin at b.
 pub fn word_from(s: &[u8], b: usize) -> usize
     requires { b + 8 ≤ length s.now }
-    ensures { result ≡ leAt 8 s.now b }
+    ensures { result ≡ le_at 8 s.now b }
 {
     wide(s[b])
         + wide(s[b + 1]) * 256
@@ -33,7 +33,7 @@ pub fn word_from(s: &[u8], b: usize) -> usize
 // The word at index i.
 pub fn word_at(s: &[u8], i: usize) -> usize
     requires { 8 * i + 8 ≤ length s.now }
-    ensures { result ≡ wordAt s.now i }
+    ensures { result ≡ word_at s.now i }
 {
     word_from(s, 8 * i)
 }
@@ -41,7 +41,7 @@ pub fn word_at(s: &[u8], i: usize) -> usize
 // Puts x at word index i.
 pub fn put_word(s: &mut [u8], i: usize, x: usize)
     requires { 8 * i + 8 ≤ length s.old }
-    ensures { s.new ≡ setWord s.old i x }
+    ensures { s.new ≡ set_word s.old i x }
 {
     let b = 8 * i;
     let x1 = x / 256;
@@ -64,7 +64,7 @@ pub fn put_word(s: &mut [u8], i: usize, x: usize)
 // The quad at index i.
 pub fn quad_at(s: &[u8], i: usize) -> usize
     requires { 4 * i + 4 ≤ length s.now }
-    ensures { result ≡ quadAt s.now i }
+    ensures { result ≡ quad_at s.now i }
 {
     let b = 4 * i;
     wide(s[b]) + wide(s[b + 1]) * 256 + wide(s[b + 2]) * 65536 + wide(s[b + 3]) * 16777216
@@ -73,7 +73,7 @@ pub fn quad_at(s: &[u8], i: usize) -> usize
 // Puts the low 32 bits of x at quad index i.
 pub fn put_quad(s: &mut [u8], i: usize, x: usize)
     requires { 4 * i + 4 ≤ length s.old }
-    ensures { s.new ≡ setQuad s.old i x }
+    ensures { s.new ≡ set_quad s.old i x }
 {
     let b = 4 * i;
     let x1 = x / 256;

@@ -1,18 +1,18 @@
--- Each answer is that of `lowestOf`.
+-- Each answer is that of `lowest_of`.
 use Rattle.std.proofs.Common.{arith}
 use borrow.Author.Tests.{le-leb, lt-leb}
-use Rattle.layout.specs.Sizes.{listBytes}
-use Rattle.bytes_buffer.specs.Spots.{lowestOf}
+use Rattle.layout.specs.Sizes.{list_bytes}
+use Rattle.bytes_buffer.specs.Spots.{lowest_of}
 use Rattle.bytes_buffer.proofs.untaken.Goals as goal
 
 pub word_at-w-requires : goal.word_at-w-requires
-unfolding listBytes
+unfolding list_bytes
 word_at-w-requires c = omega arith
 
 pub returns-then-w-n : goal.returns-then-w-n
-unfolding lowestOf
+unfolding lowest_of
 returns-then-w-n c = rw (← c.word_at-w.ensures, le-leb _ _ c.if-w-n.true)
 
 pub returns : goal.returns
-unfolding lowestOf
+unfolding lowest_of
 returns c = rw (← c.word_at-w.ensures, lt-leb _ _ c.if-w-n.false)

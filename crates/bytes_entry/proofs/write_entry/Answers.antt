@@ -1,11 +1,11 @@
 -- Four stores, all inside the dictionary's words and the header.
 use Rattle.std.proofs.Common.{ℕ, ◌+◌, ◌*◌, ◌≡◌, arith}
 use Rattle.slices.specs.Bytes.{Bytes}
-use Rattle.words.specs.Words.{setWord, setQuad}
+use Rattle.words.specs.Words.{set_word, set_quad}
 use Rattle.layout.specs.declared.Sizes.{Sizes}
-use Rattle.layout.specs.Sizes.{listBytes}
-use Rattle.layout.specs.Fields.{countAt, dictAt, entryWord, placeWord}
-use Rattle.bytes_entry.specs.Written.{entryWritten}
+use Rattle.layout.specs.Sizes.{list_bytes}
+use Rattle.layout.specs.Fields.{count_at, dict_at, entry_word, place_word}
+use Rattle.bytes_entry.specs.Written.{entry_written}
 use Rattle.bytes_entry.proofs.Inside.{words-in}
 use Rattle.bytes_entry.proofs.write_entry.Goals as goal
 
@@ -34,14 +34,14 @@ pub put_quad-requires : goal.put_quad-requires
 put_quad-requires c = let r = c.requires.in_range in omega (arith, words-in c.args.s c.args.d r.0 r.2)
 
 pub put_word-requires-3 : goal.put_word-requires-3
-unfolding listBytes
+unfolding list_bytes
 put_word-requires-3 c = omega arith
 
 -- The four stores, one after the other.
-stores : (s : Sizes) (l l₁ l₂ l₃ l₄ : Bytes) (d n page offset len stamp place h base w q : ℕ) → base ≡ dictAt s d → w ≡ entryWord page offset len → q ≡ placeWord n h
-    → l₁ ≡ setWord l (base + n) w → l₂ ≡ setWord l₁ (base + (s.e + n)) stamp → l₃ ≡ setQuad l₂ (2 * (base + 2 * s.e) + place) q → l₄ ≡ setWord l₃ (countAt d) (n + 1)
-    → l₄ ≡ entryWritten s l d n page offset len stamp place h
-unfolding entryWritten
+stores : (s : Sizes) (l l₁ l₂ l₃ l₄ : Bytes) (d n page offset len stamp place h base w q : ℕ) → base ≡ dict_at s d → w ≡ entry_word page offset len → q ≡ place_word n h
+    → l₁ ≡ set_word l (base + n) w → l₂ ≡ set_word l₁ (base + (s.e + n)) stamp → l₃ ≡ set_quad l₂ (2 * (base + 2 * s.e) + place) q → l₄ ≡ set_word l₃ (count_at d) (n + 1)
+    → l₄ ≡ entry_written s l d n page offset len stamp place h
+unfolding entry_written
 stores s l l₁ l₂ l₃ l₄ d n page offset len stamp place h base w q b e p f g i j = cc
 
 pub returns : goal.returns

@@ -3,16 +3,16 @@ use Rattle.std.proofs.Common.{ℕ, ◌+◌, ◌-◌, ◌*◌, ◌%◌, ◌≤◌
 use borrow.Author.Count.{below_more}
 use native.Mathlib.Nat.{mod-lt}
 use Rattle.slices.specs.Bytes.{Bytes}
-use Rattle.words.specs.Words.{wordAt, quadAt}
-use Rattle.fnv.specs.Fnv.{fnvOf}
+use Rattle.words.specs.Words.{word_at, quad_at}
+use Rattle.fnv.specs.Fnv.{fnv_of}
 use Rattle.layout.specs.declared.Sizes.{Sizes}
-use Rattle.layout.specs.Sizes.{pageSize}
-use Rattle.layout.specs.Fields.{entry_at, placeAt, dictAt, page_of, offset_of, size_of, named_by, top_of}
+use Rattle.layout.specs.Sizes.{page_size}
+use Rattle.layout.specs.Fields.{entry_at, place_at, dict_at, page_of, offset_of, size_of, named_by, top_of}
 use Rattle.layout.proofs.Places.{dict-within, list-bytes}
 use Rattle.bytes_index.specs.declared.Span.TheVariants.{At, Bad}
 use Rattle.bytes_index.specs.Entries.{Addresses, Met, FreeAt}
-use Rattle.bytes_index.specs.Field.{entryField}
-use Rattle.bytes_key.specs.Keys.{bytesIn}
+use Rattle.bytes_index.specs.Field.{entry_field}
+use Rattle.bytes_key.specs.Keys.{bytes_in}
 use Rattle.bytes_key.proofs.Fronts.{front-sized}
 use Rattle.bytes_index.proofs.Place.{place-zero, place-next}
 use Rattle.bytes_index.proofs.Index.{place-passed, meets, hit, never-nothing, never-past, never-out, never-full, missed}
@@ -25,19 +25,19 @@ abbrev B : Bytes → ℕ → ℕ
 B pages a = get_or pages a 0
 
 abbrev W : Bytes → Sizes → ℕ → ℕ → ℕ
-W lists s d i = wordAt lists (entry_at s d i)
+W lists s d i = word_at lists (entry_at s d i)
 
 abbrev Q : Bytes → Sizes → ℕ → ℕ → ℕ
-Q lists s d j = quadAt lists (placeAt s d j)
+Q lists s d j = quad_at lists (place_at s d j)
 
 -- The place that was read, by where the places begin.
-quad : (lists : Bytes) (s : Sizes) (d j base q : ℕ) → base ≡ dictAt s d → q ≡ quadAt lists (2 * (base + 2 * s.e) + j) → q ≡ Q lists s d j
-quad lists s d j base q e p = p ∙ ap (λ (x : ℕ). quadAt lists (2 * (x + 2 * s.e) + j)) e
+quad : (lists : Bytes) (s : Sizes) (d j base q : ℕ) → base ≡ dict_at s d → q ≡ quad_at lists (2 * (base + 2 * s.e) + j) → q ≡ Q lists s d j
+quad lists s d j base q e p = p ∙ ap (λ (x : ℕ). quad_at lists (2 * (x + 2 * s.e) + j)) e
 
 -- An entry that lies in one page is not Bad.
-never-bad : (s : Sizes) (v : ℕ) → page_of v < s.n → offset_of v + size_of v ≤ pageSize s → entryField s v ≡ Bad → ⊥
+never-bad : (s : Sizes) (v : ℕ) → page_of v < s.n → offset_of v + size_of v ≤ page_size s → entry_field s v ≡ Bad → ⊥
 never-bad s v p q f =
-    let g : entryField s v ≡ At _ _ = field_in s v p q in
+    let g : entry_field s v ≡ At _ _ = field_in s v p q in
     let z : ◌≡◌ {A = ℕ} 0 1 = cc in
     omega arith
 
@@ -50,7 +50,7 @@ overflow_mul-places c = omega (arith, dict-within c.args.s c.args.key.d c.requir
 pub probe-init : goal.probe-init
 probe-init c =
     let a = c.args in
-    let h = fnvOf (bytesIn a.key a.front.now a.rest.now) in
+    let h = fnv_of (bytes_in a.key a.front.now a.rest.now) in
     let m = 2 * a.s.e in
     let e : c.start-j.result ≡ h % m = c.start-j.ensures ∙ ap (λ (x : ℕ). x % m) c.requires.1.hashed in
     record {
@@ -84,7 +84,7 @@ returns-then-q-eq0 c =
     let p = c.probe.invariant in
     let q = Q a.lists.now a.s a.key.d in
     let r = quad _ a.s a.key.d c.probe.j _ _ c.dict_at.ensures c.quad_at-q.ensures in
-    let f : FreeAt q (2 * a.s.e) (fnvOf (bytesIn a.key a.front.now a.rest.now)) c.probe.j =
+    let f : FreeAt q (2 * a.s.e) (fnv_of (bytes_in a.key a.front.now a.rest.now)) c.probe.j =
     record { step = c.probe.t; near = omega arith; here = p.here; empty = sym r ∙ c.if-q-eq0.true; full = λ k l. (p.passed k l).0 } in
     record {
       range = p.place;
@@ -128,7 +128,7 @@ returns-in_default c =
           let o =
           never-out a.s (B a.pages.now) w (Q a.lists.now a.s a.key.d) es H c.requires.0.ranged.e.1
           c.probe.j c.probe.invariant.place (λ y. c.if-q-eq0.false (r ∙ y)) in
-          never-bad a.s _ o.0 o.1 (ap (λ (x : ℕ). entryField a.s (w (named_by x - 1))) (sym r) ∙ sym c.in_default.ensures.field);
+          never-bad a.s _ o.0 o.1 (ap (λ (x : ℕ). entry_field a.s (w (named_by x - 1))) (sym r) ∙ sym c.in_default.ensures.field);
     }
 
 pub agreeing_in-agreed-requires : goal.agreeing_in-agreed-requires
@@ -141,12 +141,12 @@ pub probe-preserved : goal.probe-preserved
 probe-preserved c =
     let a = c.args in
     let p = c.probe.invariant in
-    let key = bytesIn a.key a.front.now a.rest.now in
+    let key = bytes_in a.key a.front.now a.rest.now in
     let w = W a.lists.now a.s a.key.d in
     let q = c.quad_at-q.result in
     let r = quad _ a.s a.key.d c.probe.j _ _ c.dict_at.ensures c.quad_at-q.ensures in
     let top = c.top_bits-top.ensures.0 ∙ ap top_of c.requires.1.hashed in
-    let n : top_of q ≡ top_of (fnvOf key) → Addresses a.s (B a.pages.now) (w (named_by q - 1)) key → ⊥ =
+    let n : top_of q ≡ top_of (fnv_of key) → Addresses a.s (B a.pages.now) (w (named_by q - 1)) key → ⊥ =
     elim c.if-q-top.branch [
       | then-q-top+else-w-eq0+else-e-w+in-At+then-front_is+else-left-eq0+then-agreed-eq0 x ↦ λ e.
           not-all _ _ _ _ _ _ _ _ refl (sym x.in-At.ensures.field) (omega (arith, x.in-At.ensures.inside, c.requires.0.pages-fit))
@@ -159,16 +159,16 @@ probe-preserved c =
     record {
       steps = omega arith;
       place = rw c.up-j.ensures (mod-lt (c.probe.j + 1) (omega arith));
-      here = place-next (2 * a.s.e) (fnvOf key) c.probe.t ∙ rw p.here (sym c.up-j.ensures);
+      here = place-next (2 * a.s.e) (fnv_of key) c.probe.t ∙ rw p.here (sym c.up-j.ensures);
       passed = below_more _ _ p.passed
-          (place-passed a.s (B a.pages.now) w (Q a.lists.now a.s a.key.d) key (2 * a.s.e) (fnvOf key) c.probe.t c.probe.j q p.here r c.if-q-eq0.false n);
+          (place-passed a.s (B a.pages.now) w (Q a.lists.now a.s a.key.d) key (2 * a.s.e) (fnv_of key) c.probe.t c.probe.j q p.here r c.if-q-eq0.false n);
     }
 
 pub returns : goal.returns
 returns c =
     let a = c.args in
     let p = c.probe.invariant in
-    let key = bytesIn a.key a.front.now a.rest.now in
+    let key = bytes_in a.key a.front.now a.rest.now in
     let b = B a.pages.now in
     let w = W a.lists.now a.s a.key.d in
     let q = Q a.lists.now a.s a.key.d in
@@ -176,7 +176,7 @@ returns c =
     let top = c.top_bits-top.ensures.0 ∙ ap top_of c.requires.1.hashed in
     let i = named_by c.quad_at-q.result - 1 in
     let l : c.in-At.at + c.in-At.len ≤ length a.pages.now = omega (arith, c.in-At.ensures.inside, c.requires.0.pages-fit) in
-    let M : Met q (2 * a.s.e) (fnvOf key) i =
+    let M : Met q (2 * a.s.e) (fnv_of key) i =
     meets a.s b w q key (2 * a.s.e) c.probe.t c.probe.j c.quad_at-q.result (omega arith) p.here r (c.if-q-top.true ∙ top) c.if-w-eq0.false p.passed in
     let S : Addresses a.s b (w i) key =
     all-bytes _ _ _ _ _ _ _ _ refl (sym c.in-At.ensures.field) l (rw c.measure-n.ensures at (sym c.if-front_is.ensures))

@@ -1,11 +1,11 @@
 -- The probe loop's invariant: the places passed are filled, and none names an entry that is the key. The inner loop's: the bytes passed are equal.
 use Rattle.std.proofs.Common.{ℕ, ◌-◌, ◌≤◌, ◌<◌, ◌≡◌, get_or}
-use Rattle.words.specs.Words.{wordAt, quadAt}
-use Rattle.fnv.specs.Fnv.{fnvOf}
+use Rattle.words.specs.Words.{word_at, quad_at}
+use Rattle.fnv.specs.Fnv.{fnv_of}
 use Rattle.parts.specs.Parts.{bytes_of}
-use Rattle.layout.specs.Fields.{entry_at, placeAt}
-use Rattle.bytes_key.specs.Keys.{keyBytes, Agree}
-use Rattle.bytes_index.specs.Place.{placeAfter}
+use Rattle.layout.specs.Fields.{entry_at, place_at}
+use Rattle.bytes_key.specs.Keys.{key_bytes, Agree}
+use Rattle.bytes_index.specs.Place.{place_after}
 use Rattle.bytes_index.proofs.Index.{PlacePassed}
 use Rattle.bytes_index.proofs.probe_index.Given as goal
 
@@ -22,9 +22,9 @@ abbrev pub invariant-probe : goal.invariant-probe
 invariant-probe l = record {
   steps : l.t ≤ l.m;
   place : l.j < l.m;
-  here : placeAfter l.m (fnvOf (keyBytes l.mode l.front l.restmode l.rest)) l.t ≡ l.j;
-  passed : (k : ℕ) → k < l.t → PlacePassed l.s (λ a. get_or l.pages a 0) (λ i. wordAt l.lists (entry_at l.s l.d i)) (keyBytes l.mode l.front l.restmode l.rest)
-      (quadAt l.lists (placeAt l.s l.d (placeAfter l.m (fnvOf (keyBytes l.mode l.front l.restmode l.rest)) k)));
+  here : place_after l.m (fnv_of (key_bytes l.mode l.front l.restmode l.rest)) l.t ≡ l.j;
+  passed : (k : ℕ) → k < l.t → PlacePassed l.s (λ a. get_or l.pages a 0) (λ i. word_at l.lists (entry_at l.s l.d i)) (key_bytes l.mode l.front l.restmode l.rest)
+      (quad_at l.lists (place_at l.s l.d (place_after l.m (fnv_of (key_bytes l.mode l.front l.restmode l.rest)) k)));
 }
 
 abbrev pub decreases-probe : goal.decreases-probe

@@ -1,7 +1,7 @@
 -- Two words are equal exactly where their eight bytes are. Assumes nothing.
 use Rattle.std.proofs.Common.{◌≡◌, ℕ, ◌+◌, ◌-◌, ◌<◌, ◌≤◌, length, get_or, sym, ◌∙◌, arith}
 use Rattle.slices.specs.Bytes.{Bytes}
-use Rattle.words.specs.Words.{leAt}
+use Rattle.words.specs.Words.{le_at}
 use Rattle.words.proofs.Laws.{le-agree, le_same}
 use Rattle.parts.specs.Parts.{bytes_of}
 use Rattle.bytes_key.specs.Keys.{Agree, Agreeing}
@@ -11,7 +11,7 @@ use Rattle.bytes_key.proofs.agreeing.Goals.{then-left-lt8, else-left-lt8}
 
 -- The eight bytes that begin where `from` are left.
 module _ (pages : Bytes) (end : ℕ) (rest : Bytes) (from : ℕ) (eight : 8 ≤ from) (inside : from ≤ length rest) (fits : length rest ≤ end) where
-  bytes_word : Agree pages end rest 0 (length rest) → leAt 8 pages (end - from) ≡ leAt 8 rest (length rest - from)
+  bytes_word : Agree pages end rest 0 (length rest) → le_at 8 pages (end - from) ≡ le_at 8 rest (length rest - from)
   bytes_word h =
       le-agree 8 pages rest (end - from) (length rest - from)
       (λ i l.
@@ -19,7 +19,7 @@ module _ (pages : Bytes) (end : ℕ) (rest : Bytes) (from : ℕ) (eight : 8 ≤ 
       let q : length rest - from + i ≡ length rest - (from - i) = omega arith in
       rw (p, q) (h (from - i) (omega arith) (omega arith)))
 
-  word_bytes : ((k : ℕ) → get_or pages k 0 < 256) → ((k : ℕ) → get_or rest k 0 < 256) → leAt 8 pages (end - from) ≡ leAt 8 rest (length rest - from)
+  word_bytes : ((k : ℕ) → get_or pages k 0 < 256) → ((k : ℕ) → get_or rest k 0 < 256) → le_at 8 pages (end - from) ≡ le_at 8 rest (length rest - from)
       → Agree pages end rest (from - 8) from
   word_bytes b d e k l u =
       let p : end - from + (from - k) ≡ end - k = omega arith in

@@ -1,6 +1,6 @@
 -- The length of the whole first, then the front. Assumes nothing.
 use Rattle.std.proofs.Common.{refl, sym, ap, ◌∙◌, take, arith}
-use Rattle.slices.specs.Bytes.{Bytes, sameBytes}
+use Rattle.slices.specs.Bytes.{Bytes, same_bytes}
 use Rattle.parts.specs.declared.Mode.TheVariants.{Raw}
 use Rattle.parts.specs.Parts.{bytes_of}
 use Rattle.bytes_key.proofs.Compared.{raw}
@@ -22,7 +22,7 @@ returns-then-measured-eq0 c =
 pub returns-in-Raw : goal.returns-in-Raw
 returns-in-Raw c =
     let e = raw Raw c.args.front.now refl ∙ sym (raw c.args.mode c.args.front.now c.in-Raw.is) in
-    c.same.ensures ∙ ap (λ (x : Bytes). sameBytes x (take c.args.measured c.args.stored.now)) e
+    c.same.ensures ∙ ap (λ (x : Bytes). same_bytes x (take c.args.measured c.args.stored.now)) e
     ∙ front_same c.args.stored.now (bytes_of c.args.mode c.args.front.now) c.args.rest c.args.measured (omega arith) (omega arith)
 
 pub returns : goal.returns

@@ -1,13 +1,13 @@
 -- The calls' writes one after the other. Assumes nothing.
 use Rattle.std.proofs.Common.{◌∙◌}
-use Rattle.commit.specs.Written.{namePages, nameLists}
+use Rattle.commit.specs.Written.{name_pages, name_lists}
 use Rattle.commit.proofs.commit.Goals as goal
 
 pub returns-clause-pages : goal.returns-clause-pages
-unfolding namePages
+unfolding name_pages
 returns-clause-pages c = rw c.insert_head.ensures.pages at c.insert.ensures.pages
 
 pub returns-clause-lists : goal.returns-clause-lists
-unfolding nameLists
+unfolding name_lists
 returns-clause-lists c =
     c.take_block.ensures ∙ rw (c.insert.ensures.lists, c.requires.lent.3, c.insert_head.ensures.lists)

@@ -5,17 +5,17 @@ use Rattle.slices.specs.Bytes.{Bytes}
 use Rattle.layout.specs.declared.Sizes.{Sizes}
 use Rattle.bytes_buffer.specs.declared.Spot.{Spot}
 use Rattle.bytes_buffer.specs.declared.Spot.TheVariants.{NoPage}
-use Rattle.bytes_dictionary.specs.Written.{HasRoom, pagesAfter, listsAfter}
+use Rattle.bytes_dictionary.specs.Written.{HasRoom, pages_after, lists_after}
 use Rattle.search.proofs.Keys.{raw-key, raw-is-key}
 use Rattle.commit.proofs.insert_head.Goals as goal
 
 -- At no spot nothing is written.
-no-pages : (s : Sizes) (pages : Bytes) (spot : Spot) (key : Bytes) → spot ≡ NoPage → pages ≡ pagesAfter s pages spot key
-unfolding pagesAfter
+no-pages : (s : Sizes) (pages : Bytes) (spot : Spot) (key : Bytes) → spot ≡ NoPage → pages ≡ pages_after s pages spot key
+unfolding pages_after
 no-pages s pages spot key e = rw e
 
-no-lists : (s : Sizes) (lists : Bytes) (d n place : ℕ) (spot : Spot) (stamp : ℕ) (key : Bytes) → spot ≡ NoPage → lists ≡ listsAfter s lists d n place spot stamp key
-unfolding listsAfter
+no-lists : (s : Sizes) (lists : Bytes) (d n place : ℕ) (spot : Spot) (stamp : ℕ) (key : Bytes) → spot ≡ NoPage → lists ≡ lists_after s lists d n place spot stamp key
+unfolding lists_after
 no-lists s lists d n place spot stamp key e = rw e
 
 pub returns-then-not-w-clause-pages : goal.returns-then-not-w-clause-pages

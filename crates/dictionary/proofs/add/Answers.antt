@@ -1,22 +1,18 @@
 -- What the search and the add of a legal name promise is add's promise, once the header and the name are checked. Assumes nothing.
-use Rattle.std.proofs.Common.{◌≡◌, length, sym, subst, ◌∙◌}
+use Rattle.std.proofs.Common.{◌≡◌, sym, subst, ◌∙◌}
 use Rattle.std.proofs.Math.Option.{none}
 use Rattle.slices.specs.Bytes.{Bytes}
 use Rattle.layout.specs.declared.Sizes.{Sizes}
-use Rattle.layout.specs.Lent.{Lent}
-use Rattle.layout.specs.Sizes.{kinds}
-use Rattle.header.specs.declared.Header.TheVariants.{Opened}
-use Rattle.header.specs.Header.{headerOf}
 use Rattle.refusals.proofs.Told.{told-legal, told-illegal}
 use Rattle.model.specs.Names.{Name, entered}
 use Rattle.model.specs.Kinds.{row}
-use Rattle.model.specs.Steps.{shapeRefusal, checks}
-use Rattle.model.proofs.Legal.{legal-shape, shape-refused, text-decides}
+use Rattle.model.specs.Steps.{shape_refusal, checks}
+use Rattle.model.proofs.Legal.{shape-refused, text-decides}
 use Rattle.search.specs.declared.Search.{Search}
 use Rattle.search.specs.declared.Sought.{Sought}
 use Rattle.search.specs.Found.{EndedBy, SearchEnded}
 use Rattle.enter.proofs.Named.{adds-known, adds-bad}
-use Rattle.memory.proofs.Headers.{header, in-range, lent}
+use Rattle.memory.proofs.Headers.{lent}
 use Rattle.dictionary.proofs.Adds.{add-unopened, add-illegal, add-legal}
 use Rattle.dictionary.proofs.add.Goals as goal
 
@@ -36,32 +32,32 @@ returns-in-Illegal c =
 pub find_name-x-requires : goal.find_name-x-requires
 find_name-x-requires c =
     let a = entered c.args.kind c.args.first.now c.args.second.now in
-    let h = told-legal (shapeRefusal c.in-Opened.s a) (sym c.in_default-check_shape.ensures) in
+    let h = told-legal (shape_refusal c.in-Opened.s a) (sym c.in_default-check_shape.ensures) in
     (lent c.args.pages.now c.args.lists.now c.in-Opened.s (sym c.in-Opened.ensures) a h, h)
 
 pub returns-in-Illegal-check_text : goal.returns-in-Illegal-check_text
 returns-in-Illegal-check_text c =
     let a = entered c.args.kind c.args.first.now c.args.second.now in
-    let h = told-legal (shapeRefusal c.in-Opened.s a) (sym c.in_default-check_shape.ensures) in
+    let h = told-legal (shape_refusal c.in-Opened.s a) (sym c.in_default-check_shape.ensures) in
     add-illegal _ _ _ (sym c.in-Opened.ensures) a _ (text-decides _ _ h ∙ told-illegal _ _ (sym c.in-Illegal-check_text.ensures))
 
 pub known-requires : goal.known-requires
 known-requires c =
     let a = entered c.args.kind c.args.first.now c.args.second.now in
-    let h = told-legal (shapeRefusal c.in-Opened.s a) (sym c.in_default-check_shape.ensures) in
+    let h = told-legal (shape_refusal c.in-Opened.s a) (sym c.in_default-check_shape.ensures) in
     let l = lent c.args.pages.now c.args.lists.now c.in-Opened.s (sym c.in-Opened.ensures) a h in
     (l.ranged, l.lists-fit, l.known)
 
 pub add_name-requires-clause-lent : goal.add_name-requires-clause-lent
 add_name-requires-clause-lent c =
     let a = entered c.args.kind c.args.first.now c.args.second.now in
-    let h = told-legal (shapeRefusal c.in-Opened.s a) (sym c.in_default-check_shape.ensures) in
+    let h = told-legal (shape_refusal c.in-Opened.s a) (sym c.in_default-check_shape.ensures) in
     (lent c.args.pages.now c.args.lists.now c.in-Opened.s (sym c.in-Opened.ensures) a h, h)
 
 pub returns-in-Found : goal.returns-in-Found
 returns-in-Found c =
     let a = entered c.args.kind c.args.first.now c.args.second.now in
-    let h = told-legal (shapeRefusal c.in-Opened.s a) (sym c.in_default-check_shape.ensures) in
+    let h = told-legal (shape_refusal c.in-Opened.s a) (sym c.in_default-check_shape.ensures) in
     let l : checks c.in-Opened.s a ≡ none = text-decides _ _ h ∙ told-legal _ (sym c.in_default-check_text.ensures) in
     let t = lent c.args.pages.now c.args.lists.now c.in-Opened.s (sym c.in-Opened.ensures) a h in
     add-legal _ _ _ (sym c.in-Opened.ensures) a l _ _ _
@@ -70,14 +66,14 @@ returns-in-Found c =
 pub returns-in-Missing : goal.returns-in-Missing
 returns-in-Missing c =
     let a = entered c.args.kind c.args.first.now c.args.second.now in
-    let h = told-legal (shapeRefusal c.in-Opened.s a) (sym c.in_default-check_shape.ensures) in
+    let h = told-legal (shape_refusal c.in-Opened.s a) (sym c.in_default-check_shape.ensures) in
     let l : checks c.in-Opened.s a ≡ none = text-decides _ _ h ∙ told-legal _ (sym c.in_default-check_text.ensures) in
     add-legal _ _ _ (sym c.in-Opened.ensures) a l _ _ _ c.add_name.ensures
 
 pub returns-in-Bad : goal.returns-in-Bad
 returns-in-Bad c =
     let a = entered c.args.kind c.args.first.now c.args.second.now in
-    let h = told-legal (shapeRefusal c.in-Opened.s a) (sym c.in_default-check_shape.ensures) in
+    let h = told-legal (shape_refusal c.in-Opened.s a) (sym c.in_default-check_shape.ensures) in
     let l : checks c.in-Opened.s a ≡ none = text-decides _ _ h ∙ told-legal _ (sym c.in_default-check_text.ensures) in
     let t = lent c.args.pages.now c.args.lists.now c.in-Opened.s (sym c.in-Opened.ensures) a h in
     add-legal _ _ _ (sym c.in-Opened.ensures) a l _ _ _

@@ -1,8 +1,8 @@
 -- The count of the kind's main dictionary is the answer, once the header and the kind are checked. Assumes nothing.
 use Rattle.std.proofs.Common.{sym, ap, ◌∙◌, ℕ}
-use Rattle.words.specs.Words.{wordAt}
-use Rattle.layout.specs.Fields.{countAt}
-use Rattle.bytes_dictionary.specs.Reading.{countIn}
+use Rattle.words.specs.Words.{word_at}
+use Rattle.layout.specs.Fields.{count_at}
+use Rattle.bytes_dictionary.specs.Reading.{count_in}
 use Rattle.memory.proofs.Headers.{header, in-range}
 use Rattle.dictionary_read.proofs.Counts.{count-unopened, count-bad-kind, count-names, count-bad}
 use Rattle.dictionary_read.proofs.count.Goals as goal
@@ -21,9 +21,9 @@ count-counted-requires c =
 pub returns-in_default-counted : goal.returns-in_default-counted
 returns-in_default-counted c =
     count-bad _ _ _ (sym c.in-Opened.ensures) c.args.kind c.if-kind-ge-KINDS.false
-    (ap (λ (d : ℕ). countIn c.in-Opened.s (wordAt c.args.lists.now (countAt d))) (sym c.main_dictionary.ensures.0) ∙ sym c.in_default-counted.ensures)
+    (ap (λ (d : ℕ). count_in c.in-Opened.s (word_at c.args.lists.now (count_at d))) (sym c.main_dictionary.ensures.0) ∙ sym c.in_default-counted.ensures)
 
 pub returns : goal.returns
 returns c =
     count-names _ _ _ (sym c.in-Opened.ensures) c.args.kind c.if-kind-ge-KINDS.false _
-    (ap (λ (d : ℕ). countIn c.in-Opened.s (wordAt c.args.lists.now (countAt d))) (sym c.main_dictionary.ensures.0) ∙ sym c.in-Entries.ensures)
+    (ap (λ (d : ℕ). count_in c.in-Opened.s (word_at c.args.lists.now (count_at d))) (sym c.main_dictionary.ensures.0) ∙ sym c.in-Entries.ensures)

@@ -1,16 +1,16 @@
 -- The hash is taken on over no byte, one or two, by one step for each. Assumes nothing.
 use Rattle.std.proofs.Common.{rules}
-use Rattle.fnv.specs.Fnv.{fnvFrom}
+use Rattle.fnv.specs.Fnv.{fnv_from}
 use Rattle.encoding.proofs.hash_stored.Goals as goal
 
 pub returns-in-Nothing : goal.returns-in-Nothing
-unfolding fnvFrom
+unfolding fnv_from
 returns-in-Nothing c = search rules
 
 pub returns-in-One : goal.returns-in-One
-unfolding fnvFrom
+unfolding fnv_from
 returns-in-One c = search rules
 
 pub returns-in-Two : goal.returns-in-Two
-unfolding fnvFrom
+unfolding fnv_from
 returns-in-Two c = search rules

@@ -1,8 +1,8 @@
 -- The hash from FNV-1a's start.
 use Rattle.std.proofs.Common.{rules}
-use Rattle.fnv.specs.Fnv.{fnvOf}
+use Rattle.fnv.specs.Fnv.{fnv_of}
 use Rattle.fnv.proofs.fnv.Goals as goal
 
 pub returns : goal.returns
-unfolding fnvOf
+unfolding fnv_of
 returns c = search rules

@@ -1,6 +1,6 @@
 -- The bytes set to zero have room for the header, and the stores are those that specs/ has.
 use Rattle.std.proofs.Common.{arith}
-use Rattle.header.specs.Opened.{openedLists}
+use Rattle.header.specs.Opened.{opened_lists}
 use Rattle.header.proofs.Opening.{least}
 use Rattle.header.proofs.init.Goals as goal
 
@@ -23,5 +23,5 @@ pub put_word-requires-6 : goal.put_word-requires-6
 put_word-requires-6 c = omega (arith, least c.args.s)
 
 pub returns : goal.returns
-unfolding openedLists
+unfolding opened_lists
 returns c = cc

@@ -1,8 +1,8 @@
 -- The sum is the one that specs/ has.
 use Rattle.std.proofs.Common.{refl}
-use Rattle.layout.specs.Fields.{dictAt}
+use Rattle.layout.specs.Fields.{dict_at}
 use Rattle.layout.proofs.dict_at.Goals as goal
 
 pub returns : goal.returns
-unfolding dictAt
+unfolding dict_at
 returns c = refl

@@ -1,8 +1,8 @@
 -- The sum is the one that specs/ has.
 use Rattle.std.proofs.Common.{refl}
-use Rattle.layout.specs.Sizes.{listBytes}
+use Rattle.layout.specs.Sizes.{list_bytes}
 use Rattle.layout.proofs.list_bytes.Goals as goal
 
 pub returns : goal.returns
-unfolding listBytes
+unfolding list_bytes
 returns c = refl

@@ -1,13 +1,13 @@
 -- The product is at most 2^30.
 use Rattle.std.proofs.Common.{arith}
-use Rattle.layout.specs.Sizes.{pageBytes}
+use Rattle.layout.specs.Sizes.{page_bytes}
 use Rattle.layout.proofs.Ranges.{page-bytes}
 use Rattle.layout.proofs.page_bytes.Goals as goal
 
 pub overflow_mul-result : goal.overflow_mul-result
-unfolding pageBytes
+unfolding page_bytes
 overflow_mul-result c = rw c.page_size.ensures (omega (arith, page-bytes _ c.requires))
 
 pub returns : goal.returns
-unfolding pageBytes
+unfolding page_bytes
 returns c = rw c.page_size.ensures

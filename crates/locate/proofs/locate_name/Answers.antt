@@ -9,7 +9,7 @@ use Rattle.locate.proofs.Numbers.{located-free, located-entry, located-nothing, 
 use Rattle.locate.proofs.locate_name.Goals as goal
 
 -- The lookup of the entry, in the kind's dictionary, at the local number.
-looked : (s : Sizes) (d k i n : ℕ) (lists : Bytes) (r : Lookup) → d ≡ (row k).mainAt → i ≡ n → Looked s d i lists r → Looked s (row k).mainAt n lists r
+looked : (s : Sizes) (d k i n : ℕ) (lists : Bytes) (r : Lookup) → d ≡ (row k).main_at → i ≡ n → Looked s d i lists r → Looked s (row k).main_at n lists r
 looked s d k i n lists r e f h = rw (e, f) at h
 
 pub returns-in-At : goal.returns-in-At

@@ -4,7 +4,7 @@ use Rattle.slices.specs.Bytes.{Bytes}
 use Rattle.layout.proofs.Ranges.{page-bytes}
 use Rattle.layout.specs.declared.Sizes.{Sizes}
 use Rattle.ranked_pair_dictionary.specs.declared.FrequentId.{FrequentId}
-use Rattle.ranked_pair_dictionary.specs.FrequentId.{readFidAnswer}
+use Rattle.ranked_pair_dictionary.specs.FrequentId.{read_fid_answer}
 use Rattle.bytes_dictionary.specs.declared.Lookup.{Lookup}
 use Rattle.bytes_dictionary.specs.Reading.{Looked}
 use Rattle.model.specs.Kinds.{row}
@@ -13,11 +13,11 @@ use Rattle.locate.proofs.locate_pair.Goals as goal
 use Rattle.locate.proofs.locate_pair.Goals.{then-is_split, else-is_split}
 
 -- The frequent id of the entry, as it is cut out.
-lead : (entry cut : Bytes) (r : FrequentId) → entry ≡ cut → r ≡ readFidAnswer entry → readFidAnswer cut ≡ r
+lead : (entry cut : Bytes) (r : FrequentId) → entry ≡ cut → r ≡ read_fid_answer entry → read_fid_answer cut ≡ r
 lead entry cut r e f = rw (← e) (sym f)
 
 -- The lookup of the head, in the head dictionary.
-looked : (s : Sizes) (d k v : ℕ) (lists : Bytes) (r : Lookup) → d ≡ (row k).headsAt → Looked s d v lists r → Looked s (row k).headsAt v lists r
+looked : (s : Sizes) (d k v : ℕ) (lists : Bytes) (r : Lookup) → d ≡ (row k).heads_at → Looked s d v lists r → Looked s (row k).heads_at v lists r
 looked s d k v lists r e h = rw e at h
 
 pub returns-in_default : goal.returns-in_default

@@ -2,12 +2,12 @@
 use Rattle.std.proofs.Common.{◌≡◌, sym, arith}
 use Rattle.slices.specs.Bytes.{Bytes}
 use Rattle.string_dv_dict_split.specs.declared.Form.{Form}
-use Rattle.string_dv_dict_split.specs.Scans.{splitOf}
+use Rattle.string_dv_dict_split.specs.Scans.{split_of}
 use Rattle.locate.proofs.Strings.{short-within, long-within, located-short, located-long, located-cut}
 use Rattle.locate.proofs.locate_tagged.Goals as goal
 
 -- What the split says of the entry, as it is cut out.
-form : (entry cut : Bytes) (r : Form) → entry ≡ cut → r ≡ splitOf entry → splitOf cut ≡ r
+form : (entry cut : Bytes) (r : Form) → entry ≡ cut → r ≡ split_of entry → split_of cut ≡ r
 form entry cut r e f = rw (← e) (sym f)
 
 pub overflow_add-before : goal.overflow_add-before

@@ -1,6 +1,6 @@
 -- The word read lies in lists, and a block above the last one is no dictionary's.
 use Rattle.std.proofs.Common.{sym, ap, ◌∙◌, ℕ, ◌+◌, ◌/◌, arith}
-use Rattle.words.specs.Words.{wordAt}
+use Rattle.words.specs.Words.{word_at}
 use Rattle.blocks.proofs.Tables.{global-inside}
 use Rattle.meta_dv_dict.proofs.Answers.{locals-bad-block}
 use Rattle.meta_dv_dict.proofs.global_to_local.Goals as goal
@@ -15,5 +15,5 @@ pub returns-then-b-l : goal.returns-then-b-l
 returns-then-b-l c =
     let g = c.args.number.0 / c.block_size-size.result in
     locals-bad-block c.args.s _ _ _ c.block_size-size.ensures.0 _ c.if-b-g.false
-    (sym (c.word_at-x.ensures ∙ ap (λ (t : ℕ). wordAt c.args.lists.now (t + g)) c.blocks_at.ensures))
+    (sym (c.word_at-x.ensures ∙ ap (λ (t : ℕ). word_at c.args.lists.now (t + g)) c.blocks_at.ensures))
     c.if-x-eq0.false c.if-b-l.true

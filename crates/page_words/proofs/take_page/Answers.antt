@@ -1,7 +1,7 @@
--- The four words put are those of `tookPage`.
-use Rattle.page_words.specs.Written.{tookPage}
+-- The four words put are those of `took_page`.
+use Rattle.page_words.specs.Written.{took_page}
 use Rattle.page_words.proofs.take_page.Goals as goal
 
 pub returns : goal.returns
-unfolding tookPage
+unfolding took_page
 returns c = cc

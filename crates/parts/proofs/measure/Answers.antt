@@ -1,13 +1,13 @@
 -- The length of each mode's bytes. Assumes nothing.
 use Rattle.std.proofs.Common.{◌≡◌, ◌+◌, length, arith, rules}
 use Rattle.slices.specs.Bytes.{Bytes}
-use Rattle.encoding.specs.Encoding.{formOf, encoded}
+use Rattle.encoding.specs.Encoding.{form_of, encoded}
 use Rattle.encoding.proofs.Laws.{tag-bytes}
 use Rattle.parts.specs.declared.Mode.TheVariants.{Tag}
 use Rattle.parts.specs.Parts.{bytes_of}
 use Rattle.parts.proofs.measure.Goals as goal
 
-length-tag : (s : Bytes) → length (bytes_of Tag s) ≡ 1 + length (encoded (formOf s) s)
+length-tag : (s : Bytes) → length (bytes_of Tag s) ≡ 1 + length (encoded (form_of s) s)
 unfolding bytes_of
 length-tag s = rw (tag-bytes s) (omega arith)
 

@@ -1,7 +1,7 @@
 -- The comparison of each mode. Assumes nothing.
 use Rattle.std.proofs.Common.{◌≡◌, ◌&&◌, [], ◌∷◌, take, drop, sym, ◌∙◌, rules}
-use Rattle.slices.specs.Bytes.{Bytes, sameBytes}
-use Rattle.encoding.specs.Encoding.{formOf, firstByte, encoded}
+use Rattle.slices.specs.Bytes.{Bytes, same_bytes}
+use Rattle.encoding.specs.Encoding.{form_of, first_byte, encoded}
 use Rattle.encoding.proofs.Laws.{tag-bytes}
 use Rattle.parts.specs.declared.Mode.TheVariants.{Tag}
 use Rattle.parts.specs.Parts.{bytes_of}
@@ -9,9 +9,9 @@ use Rattle.parts.proofs.Laws.{same-append}
 use Rattle.parts.proofs.same.Goals as goal
 
 -- A stored tag: the byte in front is compared, and then what stands behind it.
-tag : (s t : Bytes) → sameBytes (bytes_of Tag s) t ≡ (sameBytes (firstByte s ∷ []) (take 1 t) && sameBytes (encoded (formOf s) s) (drop 1 t))
+tag : (s t : Bytes) → same_bytes (bytes_of Tag s) t ≡ (same_bytes (first_byte s ∷ []) (take 1 t) && same_bytes (encoded (form_of s) s) (drop 1 t))
 unfolding bytes_of
-tag s t = rw (tag-bytes s) (same-append (firstByte s ∷ []) (encoded (formOf s) s) t)
+tag s t = rw (tag-bytes s) (same-append (first_byte s ∷ []) (encoded (form_of s) s) t)
 
 pub returns-then-not-has_byte : goal.returns-then-not-has_byte
 returns-then-not-has_byte c =

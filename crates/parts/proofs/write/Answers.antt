@@ -1,7 +1,7 @@
 -- Each mode's bytes are stored at the front. Assumes nothing.
 use Rattle.std.proofs.Common.{◌≡◌, ◌∷◌, ◌∙◌, arith, length-set}
 use Rattle.slices.specs.Bytes.{Bytes}
-use Rattle.encoding.specs.Encoding.{formOf, firstByte, encoded}
+use Rattle.encoding.specs.Encoding.{form_of, first_byte, encoded}
 use Rattle.encoding.proofs.Laws.{tag-bytes}
 use Rattle.parts.specs.declared.Mode.{Mode}
 use Rattle.parts.specs.declared.Mode.TheVariants.{Raw, Tag}
@@ -13,7 +13,7 @@ raw : {m : Mode} (s : Bytes) → m ≡ Raw → bytes_of m s ≡ s
 unfolding bytes_of
 raw s e = rw e
 
-tag : {m : Mode} (s : Bytes) → m ≡ Tag → bytes_of m s ≡ firstByte s ∷ encoded (formOf s) s
+tag : {m : Mode} (s : Bytes) → m ≡ Tag → bytes_of m s ≡ first_byte s ∷ encoded (form_of s) s
 unfolding bytes_of
 tag s e = rw e (tag-bytes s)
 
@@ -39,4 +39,4 @@ returns-in-Tag c =
     let r = rw (tag s c.in-Tag.is) at c.requires in
     rw (tag s c.in-Tag.is)
     ((rw (c.form_of.ensures, c.first_byte.ensures) at c.write_encoded.ensures)
-    ∙ sets-front (firstByte s ∷ encoded (formOf s) s) c.args.dst.now r)
+    ∙ sets-front (first_byte s ∷ encoded (form_of s) s) c.args.dst.now r)

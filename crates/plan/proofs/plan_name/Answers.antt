@@ -1,21 +1,21 @@
 -- Each answer by its law, from the spots of the head and of the key as they were planned. Assumes nothing.
 use Rattle.std.proofs.Common.{◌≡◌, ℕ, arith, sym, ap, subst, ◌∙◌}
-use Rattle.words.specs.Words.{wordAt}
+use Rattle.words.specs.Words.{word_at}
 use Rattle.bytes_buffer.specs.declared.Spot.{Spot}
 use Rattle.layout.specs.declared.Sizes.{Sizes}
 use Rattle.slices.specs.Bytes.{Bytes}
-use Rattle.bytes_buffer.specs.Spots.{spotIn, untakenAfter, InPages}
+use Rattle.bytes_buffer.specs.Spots.{spot_in, untaken_after, InPages}
 use Rattle.bytes_buffer.proofs.Spots.{lowest-page}
 use Rattle.model.specs.Kinds.{row}
 use Rattle.plan.proofs.Plans.{spot-legal, plans-roomless, plans-headless, plans-pageless, plans-blockless, plans-ready}
 use Rattle.plan.proofs.plan_name.Goals as goal
 
 -- The key's spot, planned in the dictionary d from the page v, is the one planned in the kind's main dictionary after the head's spot.
-main-planned : (s : Sizes) (lists : Bytes) (k u d v len : ℕ) (head spot : Spot) → d ≡ (row k).mainAt → v ≡ untakenAfter u head
-    → spot ≡ spotIn s (wordAt lists) d v len
-    → spotIn s (wordAt lists) (row k).mainAt (untakenAfter u head) len ≡ spot
+main-planned : (s : Sizes) (lists : Bytes) (k u d v len : ℕ) (head spot : Spot) → d ≡ (row k).main_at → v ≡ untaken_after u head
+    → spot ≡ spot_in s (word_at lists) d v len
+    → spot_in s (word_at lists) (row k).main_at (untaken_after u head) len ≡ spot
 main-planned s lists k u d v len head spot p q e =
-    ap (λ (j : ℕ). spotIn s (wordAt lists) j (untakenAfter u head) len) (sym p) ∙ ap (λ (v : ℕ). spotIn s (wordAt lists) d v len) (sym q) ∙ sym e
+    ap (λ (j : ℕ). spot_in s (word_at lists) j (untaken_after u head) len) (sym p) ∙ ap (λ (v : ℕ). spot_in s (word_at lists) d v len) (sym q) ∙ sym e
 
 pub untaken_after-next-requires : goal.untaken_after-next-requires
 untaken_after-next-requires c = omega (arith, (lowest-page _ _ _ c.in-Left.ensures.lowest).1, c.requires.0.n)

@@ -5,8 +5,8 @@ use native.Mathlib.Numerals.{add-one}
 use lib.ListN.{set}
 use lib.Seq.{sets, sets-eq, set_comm}
 use Rattle.slices.specs.Bytes.{Bytes}
-use Rattle.ranked_pair_dictionary.specs.FrequentId.{be, frequentId, furtherBytes, fid}
-use Rattle.ranked_pair_dictionary.proofs.Laws.{top, length-frequentId, length-fid, fid-holds}
+use Rattle.ranked_pair_dictionary.specs.FrequentId.{be, frequent_id, further_bytes, fid}
+use Rattle.ranked_pair_dictionary.proofs.Laws.{top, length-frequent_id, length-fid, fid-holds}
 use Rattle.ranked_pair_dictionary.proofs.put_frequent_id.Goals as goal
 
 -- A store below a run of stores, done after them or before.
@@ -25,30 +25,30 @@ more b now n d v high l h e =
 less : (v d high : ℕ) → high ≡ v / 256 ^ d → high / 256 ≡ v / 256 ^ (d + 1)
 less v d high h = rw (h, add-one d, pow-suc) (div-div-eq-div-mul v (256 ^ d) 256)
 
-small : (v n d high : ℕ) → d ≡ n → n ≡ furtherBytes v → v < 2 ^ 30 → high ≡ v / 256 ^ d → high < 64
-small v n d high p q l h = rw (h, p, q) (top (furtherBytes v) v (fid-holds v l))
+small : (v n d high : ℕ) → d ≡ n → n ≡ further_bytes v → v < 2 ^ 30 → high ≡ v / 256 ^ d → high < 64
+small v n d high p q l h = rw (h, p, q) (top (further_bytes v) v (fid-holds v l))
 
 -- The first byte, in front of all further ones.
 whole : (b : Bytes) (n v : ℕ) → n < length b
-    → set (sets b 1 (be n v)) 0 (64 * n + v / 256 ^ n) ≡ frequentId n v ++ drop (n + 1) b
-unfolding frequentId
+    → set (sets b 1 (be n v)) 0 (64 * n + v / 256 ^ n) ≡ frequent_id n v ++ drop (n + 1) b
+unfolding frequent_id
 whole b n v l =
-    let k : 0 + length (frequentId n v) ≡ n + 1 = omega (arith, length-frequentId n v) in
+    let k : 0 + length (frequent_id n v) ≡ n + 1 = omega (arith, length-frequent_id n v) in
     set-sets (be n v) b 1 0 (64 * n + v / 256 ^ n) (omega arith)
-    ∙ sets-eq (frequentId n v) b 0 (omega arith)
-    ∙ ap (λ (m : ℕ). frequentId n v ++ drop m b) k
+    ∙ sets-eq (frequent_id n v) b 0 (omega arith)
+    ∙ ap (λ (m : ℕ). frequent_id n v ++ drop m b) k
 
-fid-written : (b now : Bytes) (n d v high : ℕ) → d ≡ n → n ≡ furtherBytes v → n < length b → high ≡ v / 256 ^ d
+fid-written : (b now : Bytes) (n d v high : ℕ) → d ≡ n → n ≡ further_bytes v → n < length b → high ≡ v / 256 ^ d
     → now ≡ sets b (n - d + 1) (be d v) → (n + 1 ≡ length (fid v)) × (set now 0 (64 * n + high) ≡ fid v ++ drop (length (fid v)) b)
 unfolding fid
 fid-written b now n d v high p q r h e =
     let k : length (fid v) ≡ n + 1 = length-fid v ∙ ap (λ (m : ℕ). m + 1) (sym q) in
     let i : n - d + 1 ≡ 1 = omega arith in
-    let f : fid v ≡ frequentId n v = ap (λ (m : ℕ). frequentId m v) (sym q) in
+    let f : fid v ≡ frequent_id n v = ap (λ (m : ℕ). frequent_id m v) (sym q) in
     (sym k, rw (k, e, h, i, p, f) (whole b n v r))
 
 -- The form has one byte more than it has further ones, so they fit.
-fits : (v n : ℕ) (b : Bytes) → n ≡ furtherBytes v → length (fid v) ≤ length b → n < length b
+fits : (v n : ℕ) (b : Bytes) → n ≡ further_bytes v → length (fid v) ≤ length b → n < length b
 fits v n b p q = omega (arith, length-fid v)
 
 pub bounds-buffer-further : goal.bounds-buffer-further

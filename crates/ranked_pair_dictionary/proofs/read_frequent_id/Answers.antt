@@ -8,27 +8,27 @@ use lib.Seq.{drop-cons, get_or-take, get_or-drop}
 use Rattle.slices.specs.Bytes.{Bytes}
 use Rattle.refusals.specs.declared.Refusal.TheVariants.{CutForm}
 use Rattle.ranked_pair_dictionary.specs.declared.FrequentId.TheVariants.{Value, Refused}
-use Rattle.ranked_pair_dictionary.specs.FrequentId.{ofBe, readFurther, readFidAnswer}
+use Rattle.ranked_pair_dictionary.specs.FrequentId.{of_be, read_further, read_fid_answer}
 use Rattle.ranked_pair_dictionary.proofs.read_frequent_id.Goals as goal
 
-empty : (s : Bytes) → length s ≡ 0 → Refused CutForm ≡ readFidAnswer s
-unfolding readFidAnswer
+empty : (s : Bytes) → length s ≡ 0 → Refused CutForm ≡ read_fid_answer s
+unfolding read_fid_answer
 empty [] h = refl
 empty (b ∷ s) h = absurd (omega arith)
 
 -- The answer, by the first byte and the bytes behind it.
-answer : (s : Bytes) → 0 < length s → readFidAnswer s ≡ readFurther (get_or s 0 0 / 64) (get_or s 0 0 % 64) (drop 1 s)
-unfolding readFidAnswer
+answer : (s : Bytes) → 0 < length s → read_fid_answer s ≡ read_further (get_or s 0 0 / 64) (get_or s 0 0 % 64) (drop 1 s)
+unfolding read_fid_answer
 answer [] h = absurd (omega arith)
 answer (b ∷ s) h = refl
 
-cut : (s : Bytes) (b : ℕ) → b ≡ get_or s 0 0 → 0 < length s → length s ≤ b / 64 → Refused CutForm ≡ readFidAnswer s
-unfolding readFurther
+cut : (s : Bytes) (b : ℕ) → b ≡ get_or s 0 0 → 0 < length s → length s ≤ b / 64 → Refused CutForm ≡ read_fid_answer s
+unfolding read_further
 cut s b e h l = rw (answer s h, ← e, lt-leb (b / 64) (length (drop 1 s)) (omega (arith, length-drop 1 s)))
 
 -- One byte more is read: the one at d behind the first.
 more : (s : Bytes) (n d v b x : ℕ) → d < n → n < length s → b ≡ get_or s (1 + d) 0
-    → ofBe v (drop d (take n (drop 1 s))) ≡ x → ofBe (v * 256 + b) (drop (d + 1) (take n (drop 1 s))) ≡ x
+    → of_be v (drop d (take n (drop 1 s))) ≡ x → of_be (v * 256 + b) (drop (d + 1) (take n (drop 1 s))) ≡ x
 more s n d v b x l h e f =
     let k : d < length (take n (drop 1 s)) = simp (length-take, length-drop) (omega arith) in
     let g : get_or (take n (drop 1 s)) d 0 ≡ b = get_or-take n (drop 1 s) d 0 l ∙ get_or-drop 1 s d 0 ∙ sym e in
@@ -42,12 +42,12 @@ low : (d v : ℕ) → d ≤ 2 → v < 64 * 256 ^ d → v < 4194304
 low d v h l = let p : 256 ^ d ≤ 256 ^ 2 = pow-le-pow_right (omega arith) h in omega arith
 
 whole : (s : Bytes) (b n d v : ℕ) → b ≡ get_or s 0 0 → n ≡ b / 64 → n < length s → n ≤ d
-    → ofBe v (drop d (take n (drop 1 s))) ≡ ofBe (b % 64) (take n (drop 1 s)) → Value v (n + 1) ≡ readFidAnswer s
-unfolding readFurther
+    → of_be v (drop d (take n (drop 1 s))) ≡ of_be (b % 64) (take n (drop 1 s)) → Value v (n + 1) ≡ read_fid_answer s
+unfolding read_further
 whole s b n d v e f l g h =
     let k : length (drop 1 s) ≡ length s - 1 = length-drop 1 s in
     let m : length (take n (drop 1 s)) ≤ d = simp length-take (omega arith) in
-    let w : v ≡ ofBe (b % 64) (take n (drop 1 s)) = rw (drop_of_length-le (take n (drop 1 s)) m) at h in
+    let w : v ≡ of_be (b % 64) (take n (drop 1 s)) = rw (drop_of_length-le (take n (drop 1 s)) m) at h in
     rw (answer s (omega arith), ← e, ← f, le-leb n (length (drop 1 s)) (omega arith), w)
 
 pub returns-then-bytes-eq0 : goal.returns-then-bytes-eq0

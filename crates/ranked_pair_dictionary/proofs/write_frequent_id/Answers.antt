@@ -5,18 +5,18 @@ use Rattle.slices.specs.Bytes.{Bytes}
 use Rattle.refusals.specs.declared.Refusal.{Refusal}
 use Rattle.refusals.specs.declared.Refusal.TheVariants.{ShortBuffer, HighNumber}
 use Rattle.refusals.specs.declared.Written.TheVariants.{Length, Refused}
-use Rattle.ranked_pair_dictionary.specs.FrequentId.{fid, writeRefusal, writeFidAnswer, writeFidBuffer}
+use Rattle.ranked_pair_dictionary.specs.FrequentId.{fid, write_refusal, write_fid_answer, write_fid_buffer}
 use Rattle.ranked_pair_dictionary.proofs.Laws.{length-fid, write-high, write-short, write_done}
 use Rattle.ranked_pair_dictionary.proofs.write_frequent_id.Goals as goal
 
-refused : (v : ℕ) (b : Bytes) (why : Refusal) → writeRefusal v (length b) ≡ some why
-    → (Refused why ≡ writeFidAnswer v (length b)) × (b ≡ writeFidBuffer v b)
-unfolding writeFidAnswer writeFidBuffer
+refused : (v : ℕ) (b : Bytes) (why : Refusal) → write_refusal v (length b) ≡ some why
+    → (Refused why ≡ write_fid_answer v (length b)) × (b ≡ write_fid_buffer v b)
+unfolding write_fid_answer write_fid_buffer
 refused v b why e = (rw e, rw e)
 
-written : (v : ℕ) (b now : Bytes) (n : ℕ) → writeRefusal v (length b) ≡ none → n ≡ length (fid v) → now ≡ fid v ++ drop (length (fid v)) b
-    → (Length n ≡ writeFidAnswer v (length b)) × (now ≡ writeFidBuffer v b)
-unfolding writeFidAnswer writeFidBuffer
+written : (v : ℕ) (b now : Bytes) (n : ℕ) → write_refusal v (length b) ≡ none → n ≡ length (fid v) → now ≡ fid v ++ drop (length (fid v)) b
+    → (Length n ≡ write_fid_answer v (length b)) × (now ≡ write_fid_buffer v b)
+unfolding write_fid_answer write_fid_buffer
 written v b now n e p q = (rw (e, p), rw e q)
 
 pub returns-then-value-ge1073741824 : goal.returns-then-value-ge1073741824

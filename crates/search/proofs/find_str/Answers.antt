@@ -3,17 +3,17 @@ use Rattle.std.proofs.Common.{◌≡◌, ◌<◌, ℕ, true, false, [], ◌∷�
 use Rattle.std.proofs.Math.Option.{none}
 use mathlib.Core.Bool.{false≢true}
 use Rattle.slices.specs.Bytes.{Bytes}
-use Rattle.fnv.specs.Fnv.{fnvFrom, fnvOf}
+use Rattle.fnv.specs.Fnv.{fnv_from, fnv_of}
 use Rattle.parts.specs.declared.Mode.{Mode}
 use Rattle.parts.specs.declared.Mode.TheVariants.{Raw}
 use Rattle.parts.specs.Parts.{bytes_of}
-use Rattle.utf8.specs.Text.{isText}
+use Rattle.utf8.specs.Text.{is_text}
 use Rattle.layout.specs.declared.Sizes.{Sizes}
-use Rattle.bytes_key.specs.Keys.{keyBytes}
-use Rattle.kind_table.specs.Rows.{frontMode}
+use Rattle.bytes_key.specs.Keys.{key_bytes}
+use Rattle.kind_table.specs.Rows.{front_mode}
 use Rattle.model.specs.Names.{entered}
 use Rattle.model.specs.Kinds.{row}
-use Rattle.model.specs.Steps.{shapeRefusal}
+use Rattle.model.specs.Steps.{shape_refusal}
 use Rattle.model.proofs.Legal.{legal-shape}
 use Rattle.names.proofs.Second.{shape-second}
 use Rattle.search.specs.declared.Search.{Search}
@@ -25,28 +25,28 @@ use Rattle.search.proofs.Ascii.{ascii-text, no_bytes}
 use Rattle.search.proofs.find_str.Goals as goal
 
 -- The hash of the tag, taken on over the text, is that of the key.
-hashed : (mode : Mode) (tag text : Bytes) (g h : ℕ) → g ≡ fnvFrom 2166136261 (bytes_of mode tag) → h ≡ fnvFrom g text → h ≡ fnvOf (keyBytes mode tag Raw text)
+hashed : (mode : Mode) (tag text : Bytes) (g h : ℕ) → g ≡ fnv_from 2166136261 (bytes_of mode tag) → h ≡ fnv_from g text → h ≡ fnv_of (key_bytes mode tag Raw text)
 hashed mode tag text g h p q = on-hash mode tag text g h (scanned-hash _ g p) q
 
 -- The search for the name ended where the search for its key did.
-ended : (s : Sizes) (pages lists : Bytes) (k : ℕ) (text tag : Bytes) (mode : Mode) (x : Sought) (r : Search) → shapeRefusal s (entered k text tag) ≡ none
+ended : (s : Sizes) (pages lists : Bytes) (k : ℕ) (text tag : Bytes) (mode : Mode) (x : Sought) (r : Search) → shape_refusal s (entered k text tag) ≡ none
     → (row k).paired ≡ false
-    → mode ≡ frontMode (row k).way
-    → x.h ≡ fnvOf (keyBytes mode tag Raw text)
-    → EndsKey s pages lists k (keyBytes mode tag Raw text) r
+    → mode ≡ front_mode (row k).way
+    → x.h ≡ fnv_of (key_bytes mode tag Raw text)
+    → EndsKey s pages lists k (key_bytes mode tag Raw text) r
     → EndedBy s pages lists k [] ((row k).rest (entered k text tag)) x r
 ended s pages lists k text tag mode x r shape flat m h e =
-    let key : (row k).rest (entered k text tag) ≡ keyBytes mode tag Raw text =
-    string-key k text tag flat (shape-second s (entered k text tag) shape) ∙ ap (λ (m : Mode). keyBytes m tag Raw text) (sym m) in
-    key-ends s pages lists k [] ((row k).rest (entered k text tag)) x (keyBytes mode tag Raw text) r e
+    let key : (row k).rest (entered k text tag) ≡ key_bytes mode tag Raw text =
+    string-key k text tag flat (shape-second s (entered k text tag) shape) ∙ ap (λ (m : Mode). key_bytes m tag Raw text) (sym m) in
+    key-ends s pages lists k [] ((row k).rest (entered k text tag)) x (key_bytes mode tag Raw text) r e
     (λ p t. record {
       f = 0;
       behind = λ q. absurd (false≢true (sym flat ∙ q));
-      hashed = rw flat (h ∙ ap fnvOf (sym key));
+      hashed = rw flat (h ∙ ap fnv_of (sym key));
       searched = rw (flat, key) t;
     })
 
-no_tag : (tag : Bytes) → length tag ≡ 0 → isText tag ≡ true
+no_tag : (tag : Bytes) → length tag ≡ 0 → is_text tag ≡ true
 no_tag [] e = no_bytes
 no_tag (x ∷ tag) e = absurd (omega arith)
 

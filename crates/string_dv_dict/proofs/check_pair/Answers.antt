@@ -3,11 +3,11 @@ use Rattle.std.proofs.Common.{◌≡◌, ◌+◌, ◌<◌, ◌≤◌, true, fals
 use Rattle.std.proofs.Math.Option.{some}
 use borrow.Author.Tests.{lt-ltb, le-ltb}
 use Rattle.slices.specs.Bytes.{Bytes, is_empty}
-use Rattle.layout.specs.Sizes.{nameLimit}
-use Rattle.utf8.specs.Text.{isText}
+use Rattle.layout.specs.Sizes.{name_limit}
+use Rattle.utf8.specs.Text.{is_text}
 use Rattle.refusals.specs.declared.Refusal.TheVariants.{TooLong, NotText, NoTag}
-use Rattle.refusals.specs.Checked.{checkedBy}
-use Rattle.string_dv_dict.specs.Packed.{pairRefusal}
+use Rattle.refusals.specs.Checked.{checked_by}
+use Rattle.string_dv_dict.specs.Packed.{pair_refusal}
 use Rattle.string_dv_dict.proofs.Laws.{has-bytes, is-legal}
 use Rattle.string_dv_dict.proofs.check_pair.Goals as goal
 
@@ -17,45 +17,45 @@ empty (a ∷ x) e = absurd (omega arith)
 
 -- The refusal that each test comes to.
 module _ (text tag : Bytes) where
-  long : nameLimit < length text + length tag → pairRefusal text tag ≡ some TooLong
-  unfolding pairRefusal
+  long : name_limit < length text + length tag → pair_refusal text tag ≡ some TooLong
+  unfolding pair_refusal
   long h = rw (lt-ltb _ _ h)
 
-  module _ (s : length text + length tag ≤ nameLimit) where
-    text-not : isText text ≡ false → pairRefusal text tag ≡ some NotText
-    unfolding pairRefusal
+  module _ (s : length text + length tag ≤ name_limit) where
+    text-not : is_text text ≡ false → pair_refusal text tag ≡ some NotText
+    unfolding pair_refusal
     text-not a = rw (le-ltb _ _ s, a)
 
-    tag-not : isText text ≡ true → isText tag ≡ false → pairRefusal text tag ≡ some NotText
-    unfolding pairRefusal
+    tag-not : is_text text ≡ true → is_text tag ≡ false → pair_refusal text tag ≡ some NotText
+    unfolding pair_refusal
     tag-not a b = rw (le-ltb _ _ s, a, b)
 
-    no-tag : isText text ≡ true → isText tag ≡ true → length tag ≡ 0 → pairRefusal text tag ≡ some NoTag
-    unfolding pairRefusal
+    no-tag : is_text text ≡ true → is_text tag ≡ true → length tag ≡ 0 → pair_refusal text tag ≡ some NoTag
+    unfolding pair_refusal
     no-tag a b n = rw (le-ltb _ _ s, a, b, empty tag n)
 
 pub returns-then-text-tag-gt-NAME_LIMIT : goal.returns-then-text-tag-gt-NAME_LIMIT
-unfolding nameLimit
-returns-then-text-tag-gt-NAME_LIMIT c = ap checkedBy (sym (long _ _ c.if-text-tag-gt-NAME_LIMIT.true))
+unfolding name_limit
+returns-then-text-tag-gt-NAME_LIMIT c = ap checked_by (sym (long _ _ c.if-text-tag-gt-NAME_LIMIT.true))
 
 pub returns-then-not-is_text : goal.returns-then-not-is_text
-unfolding nameLimit
+unfolding name_limit
 returns-then-not-is_text c =
-    ap checkedBy (sym (text-not _ _ c.if-text-tag-gt-NAME_LIMIT.false (sym c.is_text.ensures ∙ c.if-not-is_text.true)))
+    ap checked_by (sym (text-not _ _ c.if-text-tag-gt-NAME_LIMIT.false (sym c.is_text.ensures ∙ c.if-not-is_text.true)))
 
 pub returns-then-not-is_text-2 : goal.returns-then-not-is_text-2
-unfolding nameLimit
+unfolding name_limit
 returns-then-not-is_text-2 c =
-    ap checkedBy
+    ap checked_by
     (sym
     (tag-not _ _ c.if-text-tag-gt-NAME_LIMIT.false
     (sym c.is_text.ensures ∙ c.if-not-is_text.false)
     (sym c.is_text-2.ensures ∙ c.if-not-is_text-2.true)))
 
 pub returns-then-tag-eq0 : goal.returns-then-tag-eq0
-unfolding nameLimit
+unfolding name_limit
 returns-then-tag-eq0 c =
-    ap checkedBy
+    ap checked_by
     (sym
     (no-tag _ _ c.if-text-tag-gt-NAME_LIMIT.false
     (sym c.is_text.ensures ∙ c.if-not-is_text.false)
@@ -63,9 +63,9 @@ returns-then-tag-eq0 c =
     c.if-tag-eq0.true))
 
 pub returns : goal.returns
-unfolding nameLimit
+unfolding name_limit
 returns c =
-    ap checkedBy
+    ap checked_by
     (sym
     (is-legal c.args.text.now c.args.tag.now
     (record {

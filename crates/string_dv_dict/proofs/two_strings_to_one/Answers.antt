@@ -1,11 +1,11 @@
 -- Each refusal, and the form in its two parts. Assumes nothing.
 use Rattle.std.proofs.Common.{◌≡◌, ◌+◌, ◌≤◌, length, sym, ◌∙◌, arith}
 use Rattle.std.proofs.Math.Option.{none}
-use Rattle.layout.specs.Sizes.{packedLimit}
+use Rattle.layout.specs.Sizes.{packed_limit}
 use Rattle.slices.specs.Bytes.{Bytes}
 use Rattle.parts.specs.declared.Mode.TheVariants.{Tag}
 use Rattle.parts.specs.Parts.{bytes_of}
-use Rattle.string_dv_dict.specs.Packed.{pairRefusal}
+use Rattle.string_dv_dict.specs.Packed.{pair_refusal}
 use Rattle.string_dv_dict.proofs.Laws.{legal-tagged, length-packed}
 use Rattle.string_dv_dict.proofs.Keys.{length-tagged-key, placed-key}
 use Rattle.refusals.proofs.Told.{told-legal, told-illegal}
@@ -13,7 +13,7 @@ use Rattle.string_dv_dict.proofs.Answers.{pack-refused, pack-no-room, pack-done}
 use Rattle.string_dv_dict.proofs.two_strings_to_one.Goals as goal
 
 -- A legal text and tag has a form within the limit.
-within : (text tag : Bytes) → pairRefusal text tag ≡ none → length (bytes_of Tag tag) + length text ≤ packedLimit
+within : (text tag : Bytes) → pair_refusal text tag ≡ none → length (bytes_of Tag tag) + length text ≤ packed_limit
 within text tag e = rw (length-tagged-key text tag) (length-packed text tag (legal-tagged text tag e))
 
 pub returns-in-Illegal : goal.returns-in-Illegal
@@ -24,11 +24,11 @@ returns-in-Illegal c =
     (sym p.0, sym p.1)
 
 pub measure-m-requires : goal.measure-m-requires
-unfolding packedLimit
+unfolding packed_limit
 measure-m-requires c = omega (arith, within _ _ (told-legal _ (sym c.in_default.ensures)))
 
 pub overflow_add-n : goal.overflow_add-n
-unfolding packedLimit
+unfolding packed_limit
 overflow_add-n c = omega (arith, c.measure-m.ensures, within _ _ (told-legal _ (sym c.in_default.ensures)))
 
 pub returns-then-buffer-n : goal.returns-then-buffer-n

@@ -2,17 +2,17 @@
 use Rattle.std.proofs.Common.{◌≡◌, ◌+◌, true, length, length-drop, sym, ap, ◌∙◌, arith}
 use Rattle.slices.specs.Bytes.{Bytes}
 use Rattle.slices.proofs.Tests.{clash}
-use Rattle.utf8.specs.Text.{isText}
-use Rattle.layout.specs.Sizes.{nameLimit}
+use Rattle.utf8.specs.Text.{is_text}
+use Rattle.layout.specs.Sizes.{name_limit}
 use Rattle.string_dv_dict.specs.Packed.{LegalTagged}
-use Rattle.string_dv_dict_split.specs.Forms.{textIn, tagIn, accepted}
+use Rattle.string_dv_dict_split.specs.Forms.{text_in, tag_in, accepted}
 use Rattle.string_dv_dict.proofs.Laws.{has-bytes, legal-tagged, is-legal}
 use Rattle.string_dv_dict_split.proofs.Laws.{unpack-pack}
 use Rattle.string_dv_dict_split.proofs.PackedParts.{to_end, long-text, long-is-text, long-low, long-high, long-taken, taken-form, cut-form}
 use Rattle.string_dv_dict_split.proofs.check_long.Goals as goal
 
-pair : (form : Bytes) → accepted form ≡ true → LegalTagged (textIn form) (tagIn form)
-pair form p = legal-tagged (textIn form) (tagIn form) (unpack-pack form p).0
+pair : (form : Bytes) → accepted form ≡ true → LegalTagged (text_in form) (tag_in form)
+pair form p = legal-tagged (text_in form) (tag_in form) (unpack-pack form p).0
 
 pub returns-then-n-le-SHORT : goal.returns-then-n-le-SHORT
 returns-then-n-le-SHORT c = cut-form c.args.form.now (λ p. omega (arith, long-high c.requires p, c.if-n-le-SHORT.true))
@@ -24,17 +24,17 @@ overflow_add-text-2 c =
     omega (arith, long-low c.requires, ap length (to_end form at), length-drop at form, c.requires.within)
 
 pub returns-then-text-n-gt-NAME_LIMIT : goal.returns-then-text-n-gt-NAME_LIMIT
-unfolding nameLimit
+unfolding name_limit
 returns-then-text-n-gt-NAME_LIMIT c =
     let form = c.args.form.now in
     cut-form form
-    (λ p. omega (arith, (pair form p).size, c.if-text-n-gt-NAME_LIMIT.true, ap length (long-text c.requires), c.requires.tagLength))
+    (λ p. omega (arith, (pair form p).size, c.if-text-n-gt-NAME_LIMIT.true, ap length (long-text c.requires), c.requires.tag_length))
 
 pub returns-then-not-is_text : goal.returns-then-not-is_text
 returns-then-not-is_text c =
     let form = c.args.form.now in
     cut-form form
-    (λ p. clash (pair form p).text-is (ap isText (sym (long-text c.requires)) ∙ sym c.is_text.ensures ∙ c.if-not-is_text.true))
+    (λ p. clash (pair form p).text-is (ap is_text (sym (long-text c.requires)) ∙ sym c.is_text.ensures ∙ c.if-not-is_text.true))
 
 pub returns-then-not-is_text-2 : goal.returns-then-not-is_text-2
 returns-then-not-is_text-2 c =
@@ -43,17 +43,17 @@ returns-then-not-is_text-2 c =
     (λ p. clash (pair form p).tag_is (sym (long-is-text c.requires) ∙ sym c.is_text-2.ensures ∙ c.if-not-is_text-2.true))
 
 pub returns : goal.returns
-unfolding nameLimit
+unfolding name_limit
 returns c =
     let h = c.requires in
     let form = c.args.form.now in
     sym h.split
     ∙ taken-form form
     (long-taken h c.if-n-le-SHORT.false
-    (is-legal (textIn form) (tagIn form)
+    (is-legal (text_in form) (tag_in form)
     (record {
-      size = omega (arith, c.if-text-n-gt-NAME_LIMIT.false, ap length (long-text h), h.tagLength);
-      text-is = ap isText (sym (long-text h)) ∙ sym c.is_text.ensures ∙ c.if-not-is_text.false;
+      size = omega (arith, c.if-text-n-gt-NAME_LIMIT.false, ap length (long-text h), h.tag_length);
+      text-is = ap is_text (sym (long-text h)) ∙ sym c.is_text.ensures ∙ c.if-not-is_text.false;
       tag_is = sym (long-is-text h) ∙ sym c.is_text-2.ensures ∙ c.if-not-is_text-2.false;
-      tagged = has-bytes (tagIn form) (omega (arith, c.if-n-le-SHORT.false, h.tagLength));
+      tagged = has-bytes (tag_in form) (omega (arith, c.if-n-le-SHORT.false, h.tag_length));
     })))

@@ -4,18 +4,18 @@ use Rattle.std.proofs.Math.ListN.{drop_of_length-le}
 use Rattle.slices.specs.Bytes.{Bytes}
 use Rattle.string_dv_dict_split.specs.declared.Scan.{Scan}
 use Rattle.string_dv_dict_split.specs.declared.Scan.TheVariants.{Whole, Escape, Bad}
-use Rattle.string_dv_dict_split.specs.Scans.{scanStep, scanFrom, scanned}
+use Rattle.string_dv_dict_split.specs.Scans.{scan_step, scan_from, scanned}
 use Rattle.string_dv_dict_split.proofs.scan_tag.Goals as goal
 
-more : (st : Scan) (i : ℕ) (s : Bytes) → i < length s → scanFrom (scanStep st (get_or s i 0)) (drop (i + 1) s) ≡ scanFrom st (drop i s)
-unfolding scanFrom
+more : (st : Scan) (i : ℕ) (s : Bytes) → i < length s → scan_from (scan_step st (get_or s i 0)) (drop (i + 1) s) ≡ scan_from st (drop i s)
+unfolding scan_from
 more st i s l = rw (add-one, drop-cons s i 0 l)
 
-ended : (st : Scan) (i : ℕ) (s : Bytes) → length s ≤ i → scanFrom st (drop i s) ≡ st
-unfolding scanFrom
+ended : (st : Scan) (i : ℕ) (s : Bytes) → length s ≤ i → scan_from st (drop i s) ≡ st
+unfolding scan_from
 ended st i s l = rw (drop_of_length-le s l)
 
-counted : (st : Scan) (c : ℕ) → scanned (scanStep st c) ≤ scanned st + 1
+counted : (st : Scan) (c : ℕ) → scanned (scan_step st c) ≤ scanned st + 1
 counted (Whole n) c = go (eqb c 62) (eqb c 92)
   where
     go : (p q : Bool) → scanned (cond p Bad (cond q (Escape n) (Whole (n + 1)))) ≤ n + 1

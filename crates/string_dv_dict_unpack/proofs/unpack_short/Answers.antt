@@ -2,7 +2,7 @@
 use Rattle.std.proofs.Common.{◌+◌, ◌≤◌, length, sym, ap, ◌∙◌, arith}
 use Rattle.parts.specs.Parts.{bytes_of}
 use Rattle.string_dv_dict.proofs.Writes.{two-parts}
-use Rattle.string_dv_dict_split.specs.Forms.{textIn, tagIn}
+use Rattle.string_dv_dict_split.specs.Forms.{text_in, tag_in}
 use Rattle.string_dv_dict_split.proofs.PackedParts.{short-text, short-tag, short-length}
 use Rattle.string_dv_dict_unpack.proofs.Answers.{unpack-no-room, unpack-done, lengths}
 use Rattle.string_dv_dict_unpack.proofs.unpack_short.Goals as goal
@@ -30,11 +30,11 @@ returns c =
     let form = c.args.form.now in
     let b = c.args.buffer.now in
     let h = c.requires.2 in
-    let room : length (textIn form) + length (tagIn form) ≤ length b =
+    let room : length (text_in form) + length (tag_in form) ≤ length b =
     omega (arith, c.if-buffer-m.false, ap length (short-text h), short-length h) in
     let p = unpack-done form b c.requires.0 c.requires.1 room in (
       lengths (ap length (short-text h)) (short-length h) p.0,
       c.write_stored-2.ensures
-          ∙ rw (c.write_stored.ensures, short-text h, short-tag h) (two-parts (textIn form) (tagIn form) b room)
+          ∙ rw (c.write_stored.ensures, short-text h, short-tag h) (two-parts (text_in form) (tag_in form) b room)
           ∙ sym p.1,
     )

@@ -4,17 +4,17 @@ use borrow.Author.Tests.{eq-eqb}
 use Rattle.slices.specs.Bytes.{Bytes}
 use Rattle.utf8_char.specs.declared.Step.{Step}
 use Rattle.utf8_char.specs.declared.Step.TheVariants.{Due, Bad}
-use Rattle.utf8_char.specs.Text.{charStart, after, textFrom}
+use Rattle.utf8_char.specs.Text.{char_start, after, text_from}
 use Rattle.utf8_char.proofs.Bounds.{bad-stays, text-more, none-due}
 use Rattle.utf8_char.proofs.char_end.Goals as goal
 
 -- A byte that does not go on.
-refused : (x : Step) (i : ℕ) (s : Bytes) → i < length s → Bad ≡ after x (get_or s i 0) → textFrom x (drop i s) ≡ false
+refused : (x : Step) (i : ℕ) (s : Bytes) → i < length s → Bad ≡ after x (get_or s i 0) → text_from x (drop i s) ≡ false
 refused x i s h e = sym (text-more x Bad i s h e) ∙ bad-stays (drop (i + 1) s)
 
 pub returns-in_default : goal.returns-in_default
 returns-in_default c =
-    refused charStart c.args.i c.args.s.now c.requires (sym c.in_default.is ∙ c.first.ensures)
+    refused char_start c.args.i c.args.s.now c.requires (sym c.in_default.is ∙ c.first.ensures)
 
 pub returns-in_default-next : goal.returns-in_default-next
 returns-in_default-next c =

@@ -1,8 +1,8 @@
 -- The limit's number is the one that specs/ has.
 use Rattle.std.proofs.Common.{refl}
-use Rattle.layout.specs.Sizes.{nameLimit, limit}
+use Rattle.layout.specs.Sizes.{name_limit, limit}
 use Rattle.layout.proofs.Sizes.limit.Goals as goal
 
 pub returns : goal.returns
-unfolding nameLimit limit
+unfolding name_limit limit
 returns c = refl

@@ -1,0 +1,208 @@
+// The commands, which the program's words name, and what each does.
+ghost use Rattle.std.specs.Prelude.{◌≤◌, length, IfSome};
+
+use crate::compare::{Held, Role};
+use crate::input::Task;
+use crate::names_in_memory::{Blocks, Names};
+use crate::number::{Number, ReadBack};
+use crate::report::Tally;
+use crate::{input, line, report};
+use std::alloc::Global;
+use std::fs::File;
+use std::io;
+use std::io::Write;
+use std::rt::Files;
+
+// A command with its words. A word names a file, and - is the standard input.
+#[derive(Clone, Copy)]
+enum Command<'a> {
+    Number(&'a str),
+    Read(&'a str),
+    Compare(&'a str, &'a str),
+    Pair(&'a str, &'a str),
+    Blocks(Blocks),
+}
+
+// The number that a word is; 0 if it is no number.
+fn size(word: &str) -> u64 {
+    match line::number(word.as_bytes()) {
+        Some((value, [])) => value,
+        _ => 0,
+    }
+}
+
+// The command with this name, and the words that are left behind its own.
+fn named<'a>(name: &str, words: &'a [String]) -> Option<(Command<'a>, &'a [String])>
+    ensures { IfSome result (λ c. length c.1.now ≤ length words.now) }
+{
+    let (first, words) = words.split_first()?;
+    let first = first.as_str();
+    match name {
+        "number" => return Some((Command::Number(first), words)),
+        "read" => return Some((Command::Read(first), words)),
+        _ => {}
+    }
+    let (second, words) = words.split_first()?;
+    let second = second.as_str();
+    match name {
+        "compare" => Some((Command::Compare(first, second), words)),
+        "pair" => Some((Command::Pair(first, second), words)),
+        "blocks" => {
+            let blocks = Blocks {
+                width: size(first),
+                count: size(second),
+            };
+            Some((Command::Blocks(blocks), words))
+        }
+        _ => None,
+    }
+}
+
+// Does the task with each line of a file. None: not all of the file could be read, and a remark says so.
+fn file<R: Files + Input, W: Write, T: Task>(
+    rt: &R,
+    alloc: Global,
+    out: &mut W,
+    path: &str,
+    task: &mut T,
+) -> io::Result<Option<Tally>> {
+    report::remark(out, "", path)?;
+    if path == "-" {
+        return input::run(rt.reader(), alloc, out, task);
+    }
+    match File::open(rt, path) {
+        Ok(file) => input::run(file, alloc, out, task),
+        Err(_) => {
+            report::remark(out, "cannot be opened: ", path)?;
+            Ok(None)
+        }
+    }
+}
+
+// What the commands work on: the runtime, where answers are printed, and one dictionary with its blocks.
+#[derive(Drop)]
+struct Checklist<'a, R, W> {
+    rt: &'a R,
+    alloc: Global,
+    out: W,
+    names: Names,
+    blocks: Blocks,
+}
+
+impl<R: Files + Input, W: Write + Drop> Checklist<'_, R, W> {
+    // Runs a command. This function and the next ones return whether everything could be read.
+    fn run(&mut self, command: Command<'_>) -> io::Result<bool> {
+        match command {
+            Command::Number(path) => self.number(path),
+            Command::Read(path) => self.read(path),
+            Command::Compare(first, second) => {
+                let done = self.compare(first, second)?;
+                Ok(done && self.begin()?)
+            }
+            Command::Pair(first, second) => {
+                let done = self.pair(first, second)?;
+                Ok(done && self.begin()?)
+            }
+            Command::Blocks(blocks) => {
+                self.blocks = blocks;
+                self.begin()
+            }
+        }
+    }
+
+    // Begins a dictionary with no names. Returns whether its blocks are ones that a dictionary can have.
+    fn begin(&mut self) -> io::Result<bool> {
+        match self.names.open(self.blocks) {
+            Ok(()) => Ok(true),
+            Err(refusal) => {
+                let limits = "the width is 4 to 24, the count 1 to 4096";
+                writeln!(self.out, "# blocks: refused, {refusal} ({limits})")?;
+                Ok(false)
+            }
+        }
+    }
+
+    // Numbers the names of a file.
+    fn number(&mut self, path: &str) -> io::Result<bool> {
+        let mut task = Number {
+            names: &mut self.names,
+        };
+        match file(self.rt, self.alloc, &mut self.out, path, &mut task)? {
+            Some(tally) => {
+                report::numbered(&mut self.out, &tally)?;
+                Ok(true)
+            }
+            None => Ok(false),
+        }
+    }
+
+    // Reads the numbers of a file back.
+    fn read(&mut self, path: &str) -> io::Result<bool> {
+        let mut task = ReadBack { names: &self.names };
+        let tally = file(self.rt, self.alloc, &mut self.out, path, &mut task)?;
+        Ok(tally.is_some())
+    }
+
+    // Compares the numbering of the second file with that of the first. It uses the dictionary's memory, so a new dictionary is to be begun behind it.
+    fn compare(&mut self, first: &str, second: &str) -> io::Result<bool> {
+        let mut held = Held::new(self.alloc, &mut self.names)?;
+        let Some(base) = file(self.rt, self.alloc, &mut self.out, first, &mut held)? else {
+            return Ok(false);
+        };
+        held.role = Role::Compared;
+        match file(self.rt, self.alloc, &mut self.out, second, &mut held)? {
+            Some(tally) => {
+                held.tell_compared(&mut self.out, &base, &tally)?;
+                Ok(true)
+            }
+            None => Ok(false),
+        }
+    }
+
+    // Pairs both numberings, in the same memory. The names are printed in the order of the first numbering, so the second is the base.
+    fn pair(&mut self, first: &str, second: &str) -> io::Result<bool> {
+        let mut held = Held::new(self.alloc, &mut self.names)?;
+        let Some(base) = file(self.rt, self.alloc, &mut self.out, second, &mut held)? else {
+            return Ok(false);
+        };
+        held.role = Role::Paired;
+        match file(self.rt, self.alloc, &mut self.out, first, &mut held)? {
+            Some(tally) => {
+                held.tell_paired(&mut self.out, &base, &tally)?;
+                Ok(true)
+            }
+            None => Ok(false),
+        }
+    }
+}
+
+// Runs the commands one after the other. One that fails is the last.
+pub fn run<R: Files + Input, W: Write + Drop>(
+    rt: &R,
+    alloc: Global,
+    out: W,
+    words: &[String],
+) -> io::Result<()> {
+    let mut checklist = Checklist {
+        rt,
+        alloc,
+        out,
+        names: Names::new(alloc)?,
+        blocks: Blocks::NEMO,
+    };
+    if words.is_empty() {
+        report::usage(&mut checklist.out, "none")?;
+    }
+    let mut rest = words;
+    while let Some((name, behind)) = rest.split_first() {
+        let Some((command, behind)) = named(name.as_str(), behind) else {
+            report::usage(&mut checklist.out, name.as_str())?;
+            break;
+        };
+        if !checklist.run(command)? {
+            break;
+        }
+        rest = behind;
+    }
+    checklist.out.flush()
+}
