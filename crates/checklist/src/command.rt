@@ -95,14 +95,9 @@ impl<R: Files + Input, W: Write + Drop> Checklist<'_, R, W> {
         match command {
             Command::Number(path) => self.number(path),
             Command::Read(path) => self.read(path),
-            Command::Compare(first, second) => {
-                let done = self.compare(first, second)?;
-                Ok(done && self.begin()?)
-            }
-            Command::Pair(first, second) => {
-                let done = self.pair(first, second)?;
-                Ok(done && self.begin()?)
-            }
+            Command::Compare(first, second) => self.hold(first, second, Role::Compared),
+            // The names are printed in the order of the first numbering, so the second is the base.
+            Command::Pair(first, second) => self.hold(second, first, Role::Paired),
             Command::Blocks(blocks) => {
                 self.blocks = blocks;
                 self.begin()
@@ -143,32 +138,21 @@ impl<R: Files + Input, W: Write + Drop> Checklist<'_, R, W> {
         Ok(tally.is_some())
     }
 
-    // Compares the numbering of the second file with that of the first. It uses the dictionary's memory, so a new dictionary is to be begun behind it.
-    fn compare(&mut self, first: &str, second: &str) -> io::Result<bool> {
-        let mut held = Held::new(self.alloc, &mut self.names)?;
-        let Some(base) = file(self.rt, self.alloc, &mut self.out, first, &mut held)? else {
-            return Ok(false);
-        };
-        held.role = Role::Compared;
-        match file(self.rt, self.alloc, &mut self.out, second, &mut held)? {
-            Some(tally) => {
-                held.tell_compared(&mut self.out, &base, &tally)?;
-                Ok(true)
-            }
-            None => Ok(false),
-        }
+    // Holds a numbering against a base. It uses the dictionary's memory, so a new dictionary is begun behind it.
+    fn hold(&mut self, base: &str, path: &str, role: Role) -> io::Result<bool> {
+        let done = self.hold_against(base, path, role)?;
+        Ok(done && self.begin()?)
     }
 
-    // Pairs both numberings, in the same memory. The names are printed in the order of the first numbering, so the second is the base.
-    fn pair(&mut self, first: &str, second: &str) -> io::Result<bool> {
+    fn hold_against(&mut self, base: &str, path: &str, role: Role) -> io::Result<bool> {
         let mut held = Held::new(self.alloc, &mut self.names)?;
-        let Some(base) = file(self.rt, self.alloc, &mut self.out, second, &mut held)? else {
+        let Some(of_base) = file(self.rt, self.alloc, &mut self.out, base, &mut held)? else {
             return Ok(false);
         };
-        held.role = Role::Paired;
-        match file(self.rt, self.alloc, &mut self.out, first, &mut held)? {
+        held.role = role;
+        match file(self.rt, self.alloc, &mut self.out, path, &mut held)? {
             Some(tally) => {
-                held.tell_paired(&mut self.out, &base, &tally)?;
+                held.tell(&mut self.out, &of_base, &tally)?;
                 Ok(true)
             }
             None => Ok(false),

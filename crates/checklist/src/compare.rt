@@ -56,8 +56,16 @@ impl<'a> Held<'a> {
         })
     }
 
-    // Prints what is known once both are compared.
-    pub fn tell_compared<W: Write>(&self, out: &mut W, base: &Tally, t: &Tally) -> io::Result<()> {
+    // Prints what is known once the other numbering is held against the base.
+    pub fn tell<W: Write>(&self, out: &mut W, base: &Tally, t: &Tally) -> io::Result<()> {
+        match self.role {
+            Role::Base => Ok(()),
+            Role::Compared => self.tell_compared(out, base, t),
+            Role::Paired => self.tell_paired(out, base, t),
+        }
+    }
+
+    fn tell_compared<W: Write>(&self, out: &mut W, base: &Tally, t: &Tally) -> io::Result<()> {
         if let Some(i) = self.first_missing() {
             self.missing(out, "first only in the first: ", i)?;
         }
@@ -77,8 +85,8 @@ impl<'a> Held<'a> {
         writeln!(out, "lines refused: {} and {refused}", base.refused)
     }
 
-    // Prints what is known once both are paired. The base is the second of them.
-    pub fn tell_paired<W: Write>(&self, out: &mut W, base: &Tally, t: &Tally) -> io::Result<()> {
+    // The base is the second of the two.
+    fn tell_paired<W: Write>(&self, out: &mut W, base: &Tally, t: &Tally) -> io::Result<()> {
         for (i, entry) in self.entries.iter().enumerate() {
             if entry.base_line.is_some() {
                 self.missing(out, "# only in the second: ", i)?;
