@@ -22,8 +22,10 @@ fn main() {
         "departures" => departures::run(&mut total),
         "full-page" => return departures::full_page(),
         "stored" => return stored::print(),
+        "replay" => return stored::print_replay(),
+        "replay-stdout" => return stored::print_replay_stdout(),
         _ => {
-            eprintln!("commands: all, leaves, lists, departures, stored");
+            eprintln!("commands: all, leaves, lists, departures, stored, replay, replay-stdout");
             std::process::exit(2);
         }
     }

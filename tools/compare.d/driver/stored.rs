@@ -1,22 +1,56 @@
-//! Prints the stored lists: calls with the original's answers alone. tools/expected_calls.py makes lines for the program `calls` of them.
-//! A line is a call and its answer. A name is its kind, a space, the first part, '|', the second part; in the parts `\` and a byte
-//! that is no printable ASCII character are escaped as in Rust.
+//! Prints the stored lists: calls with the original's answers alone, for the programs `calls` and `replay`.
+//! tools/expected_calls.py makes lines for `calls` of `stored.txt`. A line there is a call and its answer. A name is its kind, a space, the
+//! first part, '|', the second part; in the parts `\` and a byte that is no printable ASCII character are escaped as in Rust.
 //!   add NAME fresh NUMBER, add NAME known NUMBER
 //!   find NAME known NUMBER, find NAME none
 //!   read NUMBER name NAME, read NUMBER none
 //!   count KIND NUMBER
 //!   -- TEXT                    the title of a list; the dictionary has no names, and its blocks have 16 numbers
+//! The lines of `replay` are told of in crates/replay/src/replay.rs.
 use crate::random::Random;
 use crate::theirs;
 
-struct List {
-    dictionary: Box<dyn theirs::Dictionary>,
-    lines: Vec<String>,
+/// A call with its answer: + add, ? find, < read, # count; f fresh, k known, n a name, - none.
+struct Line {
+    call: char,
+    kind: usize,
+    word: char,
+    number: u64,
+    first: String,
+    second: String,
 }
 
-fn name(kind: usize, first: &str, second: &str) -> String {
-    assert!(!first.contains(['|', ' ']) && !second.contains(['|', ' ']));
-    format!("{kind} {}|{}", first.as_bytes().escape_ascii(), second.as_bytes().escape_ascii())
+impl Line {
+    fn name(&self) -> String {
+        assert!(!self.first.contains(['|', ' ']) && !self.second.contains(['|', ' ']));
+        format!("{} {}|{}", self.kind, self.first.as_bytes().escape_ascii(), self.second.as_bytes().escape_ascii())
+    }
+
+    /// The line of `stored.txt`.
+    fn stored(&self) -> String {
+        let number = self.number;
+        match (self.call, self.word) {
+            ('+', 'f') => format!("add {} fresh {number}", self.name()),
+            ('+', _) => format!("add {} known {number}", self.name()),
+            ('?', 'k') => format!("find {} known {number}", self.name()),
+            ('?', _) => format!("find {} none", self.name()),
+            ('<', 'n') => format!("read {number} name {}", self.name()),
+            ('<', _) => format!("read {number} none"),
+            _ => format!("count {} {number}", self.kind),
+        }
+    }
+
+    /// The line of `crates/replay/stdin`.
+    fn replayed(&self) -> String {
+        let Line { call, kind, word, number, first, second } = self;
+        assert!(*number < 65_536 && !first.contains(['|', '\n']) && !second.contains(['|', '\n']));
+        format!("{call}{kind}{word}{number:04x} {first}|{second}\n")
+    }
+}
+
+struct List {
+    dictionary: Box<dyn theirs::Dictionary>,
+    lines: Vec<Line>,
 }
 
 impl List {
@@ -24,42 +58,42 @@ impl List {
         List { dictionary: theirs::dictionary(4), lines: Vec::new() }
     }
 
+    fn line(&mut self, call: char, kind: usize, word: char, number: u64, first: &str, second: &str) {
+        self.lines.push(Line { call, kind, word, number, first: first.to_string(), second: second.to_string() });
+    }
+
     fn add(&mut self, kind: usize, first: &str, second: &str) -> u64 {
         let (fresh, number) = self.dictionary.add(kind, first, second);
-        let word = if fresh { "fresh" } else { "known" };
-        self.lines.push(format!("add {} {word} {number}", name(kind, first, second)));
+        self.line('+', kind, if fresh { 'f' } else { 'k' }, number, first, second);
         number
     }
 
     fn find(&mut self, kind: usize, first: &str, second: &str) {
-        let answer = match self.dictionary.find(kind, first, second) {
-            Some(number) => format!("known {number}"),
-            None => "none".to_string(),
-        };
-        self.lines.push(format!("find {} {answer}", name(kind, first, second)));
+        match self.dictionary.find(kind, first, second) {
+            Some(number) => self.line('?', kind, 'k', number, first, second),
+            None => self.line('?', kind, '-', 0, first, second),
+        }
     }
 
     /// A long tag comes escaped from the original; such a name is not read here.
     fn read(&mut self, number: u64) {
-        let answer = match self.dictionary.read(number) {
-            Some((0, head, rest)) => name(0, &(head + &rest), ""),
+        match self.dictionary.read(number) {
+            Some((0, head, rest)) => self.line('<', 0, 'n', number, &(head + &rest), ""),
             Some((2, form, _)) => {
                 let (text, tag) = theirs::unpack(&form).unwrap();
-                if form.starts_with('\0') && tag.contains('\\') {
-                    return;
+                if !(form.starts_with('\0') && tag.contains('\\')) {
+                    self.line('<', 2, 'n', number, &text, &tag);
                 }
-                name(2, &text, &tag)
             }
-            Some((kind, first, second)) => name(kind, &first, &second),
-            None => return self.lines.push(format!("read {number} none")),
-        };
-        self.lines.push(format!("read {number} name {answer}"));
+            Some((kind, first, second)) => self.line('<', kind, 'n', number, &first, &second),
+            None => self.line('<', 0, '-', number, "", ""),
+        }
     }
 
     fn counts(&mut self) {
         for kind in 0..4 {
             let count = self.dictionary.count(kind);
-            self.lines.push(format!("count {kind} {count}"));
+            self.line('#', kind, 'n', count, "", "");
         }
     }
 }
@@ -169,14 +203,42 @@ fn mixed() -> List {
     list
 }
 
+/// Each list with its name and its title.
+fn lists() -> [(&'static str, &'static str, List); 4] {
+    [
+        ("blocks", "The kinds in turns, so that their blocks lie between one another and some are skipped; then every third number read.", blocks()),
+        ("heads", "70 heads of IRIs and 70 of typed values; names before and behind the 64th again.", heads()),
+        ("tags", "Tags at the border of 127 bytes, with what is escaped in them.", tags()),
+        ("mixed", "Random short names over few letters.", mixed()),
+    ]
+}
+
+/// `stored.txt`.
 pub fn print() {
-    let lists = [
-        ("the kinds in turns, so that their blocks lie between one another and some are skipped; then every third number read", blocks()),
-        ("70 heads of IRIs and 70 of typed values; names before and behind the 64th again", heads()),
-        ("tags at the border of 127 bytes, with what is escaped in them", tags()),
-        ("random short names over few letters", mixed()),
-    ];
-    for (title, list) in lists {
-        println!("-- {title}\n{}", list.lines.join("\n"));
+    for (_, title, list) in lists() {
+        let mut title = title.trim_end_matches('.').to_string();
+        title[..1].make_ascii_lowercase();
+        println!("-- {title}");
+        for line in &list.lines {
+            println!("{}", line.stored());
+        }
+    }
+}
+
+/// The input of `replay`: each list with its title, an open before it and its name behind it.
+pub fn print_replay() {
+    for (name, title, list) in lists() {
+        print!("-- {title}\no\n");
+        for line in &list.lines {
+            print!("{}", line.replayed());
+        }
+        println!("= {name}");
+    }
+}
+
+/// What `replay` prints if no answer differs.
+pub fn print_replay_stdout() {
+    for (name, title, list) in lists() {
+        println!("-- {title}\n{name}: {} calls, 0 differ", list.lines.len());
     }
 }
