@@ -1,4 +1,4 @@
-// The exported entries, for C and Rust: each calls the library and gives its answer's numbers. include/namedict.h declares them.
+// The entries: each calls the library and gives its answer's numbers. namedict_c exports them, and include/namedict.h declares them.
 #![tactic(auto)]
 
 ghost use Rattle.std.specs.Prelude.{◌≡◌, length};
@@ -18,8 +18,7 @@ use numbers::{NamedictCounted, NamedictName, NamedictNumbered};
 // ---- the leaf rules
 
 // 1 if the bytes are text, else 0.
-#[unsafe(no_mangle)]
-pub extern "C" fn namedict_is_text(bytes: &[u8]) -> u64
+pub fn namedict_is_text(bytes: &[u8]) -> u64
     ensures value { result ≡ yes_no (is_text bytes.now) }
     ensures kept { bytes.exit.now ≡ bytes.entry.now }
 {
@@ -27,8 +26,7 @@ pub extern "C" fn namedict_is_text(bytes: &[u8]) -> u64
 }
 
 // The length of an IRI's head, 0 where it has none.
-#[unsafe(no_mangle)]
-pub extern "C" fn namedict_split_iri(iri: &[u8]) -> u64
+pub fn namedict_split_iri(iri: &[u8]) -> u64
     ensures value { result ≡ length_of (head_of iri.now) }
     ensures kept { iri.exit.now ≡ iri.entry.now }
 {
@@ -36,16 +34,14 @@ pub extern "C" fn namedict_split_iri(iri: &[u8]) -> u64
 }
 
 // Writes a frequent id at the buffer's start.
-#[unsafe(no_mangle)]
-pub extern "C" fn namedict_write_fid(value: u64, buffer: &mut [u8]) -> NamedictWritten
+pub fn namedict_write_fid(value: u64, buffer: &mut [u8]) -> NamedictWritten
     ensures { (result ≡ written_numbers (write_fid_answer value (length buffer.old))) × (buffer.new ≡ write_fid_buffer value buffer.old) }
 {
     leaf_numbers::written_numbers(ranked_pair_dictionary::write_frequent_id(value as usize, buffer))
 }
 
 // Reads the frequent id in front of the bytes.
-#[unsafe(no_mangle)]
-pub extern "C" fn namedict_read_fid(bytes: &[u8]) -> NamedictValue
+pub fn namedict_read_fid(bytes: &[u8]) -> NamedictValue
     ensures value { result ≡ value_numbers (read_fid_answer bytes.now) }
     ensures kept { bytes.exit.now ≡ bytes.entry.now }
 {
@@ -53,8 +49,7 @@ pub extern "C" fn namedict_read_fid(bytes: &[u8]) -> NamedictValue
 }
 
 // Packs a text and its tag at the buffer's start.
-#[unsafe(no_mangle)]
-pub extern "C" fn namedict_pack(text: &[u8], tag: &[u8], buffer: &mut [u8]) -> NamedictWritten
+pub fn namedict_pack(text: &[u8], tag: &[u8], buffer: &mut [u8]) -> NamedictWritten
     ensures value { (result ≡ written_numbers (pack_answer text.now tag.now (length buffer.old))) × (buffer.new ≡ pack_buffer text.now tag.now buffer.old) }
     ensures kept { (text.exit.now ≡ text.entry.now) × (tag.exit.now ≡ tag.entry.now) }
 {
@@ -62,8 +57,7 @@ pub extern "C" fn namedict_pack(text: &[u8], tag: &[u8], buffer: &mut [u8]) -> N
 }
 
 // Unpacks a form: the text at the buffer's start, the tag behind it.
-#[unsafe(no_mangle)]
-pub extern "C" fn namedict_unpack(packed: &[u8], buffer: &mut [u8]) -> NamedictUnpacked
+pub fn namedict_unpack(packed: &[u8], buffer: &mut [u8]) -> NamedictUnpacked
     ensures value { (result ≡ unpacked_numbers (unpack_answer packed.now (length buffer.old))) × (buffer.new ≡ unpack_buffer packed.now buffer.old) }
     ensures kept { packed.exit.now ≡ packed.entry.now }
 {
@@ -73,8 +67,7 @@ pub extern "C" fn namedict_unpack(packed: &[u8], buffer: &mut [u8]) -> NamedictU
 // ---- the dictionary
 
 // Opens a dictionary with no names in the memory lent: 0 done, 1 bad size, 2 short memory.
-#[unsafe(no_mangle)]
-pub extern "C" fn namedict_open(
+pub fn namedict_open(
     pages: &[u8],
     lists: &mut [u8],
     page_width: u64,
@@ -98,8 +91,7 @@ pub extern "C" fn namedict_open(
 }
 
 // Gives a name its number: fresh, or known already.
-#[unsafe(no_mangle)]
-pub extern "C" fn namedict_add<'a>(
+pub fn namedict_add<'a>(
     pages: &mut [u8],
     lists: &mut [u8],
     kind: u64,
@@ -113,8 +105,7 @@ pub extern "C" fn namedict_add<'a>(
 }
 
 // The number that a name has.
-#[unsafe(no_mangle)]
-pub extern "C" fn namedict_find<'a>(
+pub fn namedict_find<'a>(
     pages: &[u8],
     lists: &[u8],
     kind: u64,
@@ -128,21 +119,14 @@ pub extern "C" fn namedict_find<'a>(
 }
 
 // The name that has a number: its parts at the buffer's start, one after the other.
-#[unsafe(no_mangle)]
-pub extern "C" fn namedict_read(
-    pages: &[u8],
-    lists: &[u8],
-    number: u64,
-    buffer: &mut [u8],
-) -> NamedictName
+pub fn namedict_read(pages: &[u8], lists: &[u8], number: u64, buffer: &mut [u8]) -> NamedictName
     ensures { ReadReturned pages.entry.now lists.entry.now number buffer.old result buffer.new pages.exit.now lists.exit.now }
 {
     numbers::name_numbers(dictionary_read::read(pages, lists, GlobalId(number as usize), buffer))
 }
 
 // How many names of a kind there are.
-#[unsafe(no_mangle)]
-pub extern "C" fn namedict_count(pages: &[u8], lists: &[u8], kind: u64) -> NamedictCounted
+pub fn namedict_count(pages: &[u8], lists: &[u8], kind: u64) -> NamedictCounted
     ensures { CountReturned pages.entry.now lists.entry.now kind result pages.exit.now lists.exit.now }
 {
     numbers::count_numbers(dictionary_read::count(pages, lists, kind as usize))
