@@ -158,8 +158,7 @@ fn leaf_rule<W: Write>(
 ) -> io::Result<()> {
     let value = words.number();
     let length = words.number();
-    let first = words.part(alloc)?;
-    let second = words.part(alloc)?;
+    let (first, second) = words.parts(alloc)?;
     match buffer(alloc, length)? {
         Some(mut bytes) => leaf::call(
             out,

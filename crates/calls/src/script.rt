@@ -2,11 +2,11 @@
 // A number is written in hexadecimal, with at most 16 digits.
 // A part is written as its bytes, two digits each. A '*' and a number behind a byte say how often it is repeated. A '.' ends that number if
 // more bytes follow: 612f78*f9e, 68*c8.2f68*c8. A part of no bytes is '-'.
-ghost use Rattle.std.specs.Prelude.{◌<◌, IfSome};
+ghost use Rattle.std.specs.Prelude.{◌<◌, ◌≤◌, length, IfSome};
 
 use std::alloc::{AllocError, Global};
 
-// The longest part, packed form and buffer in the lists of calls.
+// The longest packed form and buffer in the lists of calls. Both parts of a line have room for as many bytes together.
 pub const LONGEST: usize = 8004;
 
 // A name that a call is given.
@@ -28,26 +28,31 @@ impl<'a> Words<'a> {
         Words { rest: line }
     }
 
-    // The next word. Behind the last one there are words of no bytes.
-    fn word(&mut self) -> &'a [u8] {
+    // The number in front. The byte behind it is passed over.
+    pub fn number(&mut self) -> u64 {
+        let (value, behind) = number(self.rest);
+        self.rest = behind;
+        value
+    }
+
+    // The part in front, if it has at most `room` bytes.
+    fn part(&mut self, alloc: Global, room: usize) -> Result<Vec<u8>, AllocError> {
         let line = self.rest;
         let end = lines::end_of(line, 0, b' ');
         self.rest = &line[lines::behind(line, end)..];
-        &line[..end]
+        part(alloc, &line[..end], room)
     }
 
-    pub fn number(&mut self) -> u64 {
-        number(self.word())
-    }
-
-    pub fn part(&mut self, alloc: Global) -> Result<Vec<u8>, AllocError> {
-        part(alloc, self.word())
+    // Two parts.
+    pub fn parts(&mut self, alloc: Global) -> Result<(Vec<u8>, Vec<u8>), AllocError> {
+        let first = self.part(alloc, LONGEST)?;
+        let second = self.part(alloc, LONGEST.saturating_sub(first.len()))?;
+        Ok((first, second))
     }
 
     pub fn name(&mut self, alloc: Global) -> Result<Name, AllocError> {
         let kind = self.number();
-        let first = self.part(alloc)?;
-        let second = self.part(alloc)?;
+        let (first, second) = self.parts(alloc)?;
         Ok(Name {
             kind,
             first,
@@ -70,16 +75,36 @@ fn digit(b: u8) -> Option<u8>
 // A number below this has room for one more digit.
 const ROOM: u64 = 1 << 60;
 
-// The number that the digits at the front of a word make.
-fn number(word: &[u8]) -> u64 {
+// The number in front of a text, and what is behind its digits.
+fn digits(text: &[u8]) -> (u64, &[u8])
+    ensures { length result.1.now ≤ length text.now }
+{
     let mut value = 0;
-    for b in word {
+    let mut taken = 0;
+    for b in text {
         match digit(*b) {
             Some(d) if value < ROOM => value = value * 16 + u64::from(d),
             _ => break,
         }
+        taken += 1;
     }
-    value
+    (value, &text[taken..])
+}
+
+// The number in front of a text, and what is behind the byte after it.
+fn number(text: &[u8]) -> (u64, &[u8])
+    ensures { length result.1.now ≤ length text.now }
+{
+    let (value, behind) = digits(text);
+    (value, &behind[lines::behind(behind, 0)..])
+}
+
+// A byte of a part, how often it is repeated, and the text behind it.
+#[derive(Clone, Copy)]
+struct Run<'a> {
+    byte: u8,
+    count: u64,
+    behind: &'a [u8],
 }
 
 // The byte that two digits write.
@@ -89,37 +114,55 @@ fn byte(high: u8, low: u8) -> Option<u8> {
     Some(high * 16 + low)
 }
 
-// The bytes of a part.
-fn part(alloc: Global, word: &[u8]) -> Result<Vec<u8>, AllocError> {
+// The byte in front of a text, which has a first character. If that begins no byte, it is passed over: a byte that is repeated 0 times.
+fn run_at(first: u8, behind: &[u8]) -> Run<'_>
+    ensures { length result.behind.now ≤ length behind.now }
+{
+    let nothing = Run {
+        byte: 0,
+        count: 0,
+        behind,
+    };
+    let Some((low, behind)) = behind.split_first() else {
+        return nothing;
+    };
+    let Some(byte) = byte(first, *low) else {
+        return nothing;
+    };
+    match behind {
+        [b'*', repeated @ ..] => {
+            let (count, behind) = number(repeated);
+            Run {
+                byte,
+                count,
+                behind,
+            }
+        }
+        _ => Run {
+            byte,
+            count: 1,
+            behind,
+        },
+    }
+}
+
+// The bytes of a part. A run that has no room is left out.
+fn part(alloc: Global, text: &[u8], room: usize) -> Result<Vec<u8>, AllocError> {
     let mut bytes = Vec::new(alloc);
-    for piece in word.split(|b| *b == b'.') {
-        append(&mut bytes, piece)?;
+    let mut rest = text;
+    while let Some((first, behind)) = rest.split_first() {
+        let run = run_at(*first, behind);
+        put(&mut bytes, run, room)?;
+        rest = run.behind;
     }
     Ok(bytes)
 }
 
-// Appends the bytes of a piece, of which the last may be repeated.
-fn append(bytes: &mut Vec<u8>, piece: &[u8]) -> Result<(), AllocError> {
-    let star = lines::end_of(piece, 0, b'*');
-    for pair in piece[..star].chunks_exact(2) {
-        if let Some(b) = byte(pair[0], pair[1]) {
-            bytes.push(b)?;
-        }
-    }
-    if star < piece.len() {
-        repeat(bytes, number(&piece[star + 1..]))?;
-    }
-    Ok(())
-}
-
-// Repeats the last byte, so that it is there `count` times. A part that would be longer than any part of the lists loses the byte.
-fn repeat(bytes: &mut Vec<u8>, count: u64) -> Result<(), AllocError> {
-    let Some(last) = bytes.pop() else {
-        return Ok(());
-    };
-    let before = bytes.len();
-    if before <= LONGEST && count <= (LONGEST - before) as u64 {
-        bytes.resize(before + count as usize, last)?;
+// Puts a run behind the bytes, or nothing if there would be more than `room`.
+fn put(bytes: &mut Vec<u8>, run: Run<'_>, room: usize) -> Result<(), AllocError> {
+    let n = bytes.len();
+    if n <= room && run.count <= (room - n) as u64 {
+        bytes.resize(n + run.count as usize, run.byte)?;
     }
     Ok(())
 }

@@ -16,38 +16,38 @@ use std::rt::Files;
 // A command with its words. A word names a file, and - is the standard input.
 #[derive(Clone, Copy)]
 enum Command<'a> {
-    Number(&'a str),
-    Read(&'a str),
-    Compare(&'a str, &'a str),
-    Pair(&'a str, &'a str),
+    Number(&'a [u8]),
+    Read(&'a [u8]),
+    Compare(&'a [u8], &'a [u8]),
+    Pair(&'a [u8], &'a [u8]),
     Blocks(Blocks),
 }
 
 // The number that a word is; 0 if it is no number.
-fn size(word: &str) -> u64 {
-    match line::number(word.as_bytes()) {
+fn size(word: &[u8]) -> u64 {
+    match line::number(word) {
         Some((value, [])) => value,
         _ => 0,
     }
 }
 
 // The command with this name, and the words that are left behind its own.
-fn named<'a>(name: &str, words: &'a [String]) -> Option<(Command<'a>, &'a [String])>
+fn named<'a>(name: &[u8], words: &'a [Vec<u8>]) -> Option<(Command<'a>, &'a [Vec<u8>])>
     ensures { IfSome result (λ c. length c.1.now ≤ length words.now) }
 {
     let (first, words) = words.split_first()?;
-    let first = first.as_str();
+    let first = first.as_slice();
     match name {
-        "number" => return Some((Command::Number(first), words)),
-        "read" => return Some((Command::Read(first), words)),
+        b"number" => return Some((Command::Number(first), words)),
+        b"read" => return Some((Command::Read(first), words)),
         _ => {}
     }
     let (second, words) = words.split_first()?;
-    let second = second.as_str();
+    let second = second.as_slice();
     match name {
-        "compare" => Some((Command::Compare(first, second), words)),
-        "pair" => Some((Command::Pair(first, second), words)),
-        "blocks" => {
+        b"compare" => Some((Command::Compare(first, second), words)),
+        b"pair" => Some((Command::Pair(first, second), words)),
+        b"blocks" => {
             let blocks = Blocks {
                 width: size(first),
                 count: size(second),
@@ -58,21 +58,29 @@ fn named<'a>(name: &str, words: &'a [String]) -> Option<(Command<'a>, &'a [Strin
     }
 }
 
+// A path that is not UTF-8 cannot be opened by std.
+fn open<R: Files>(rt: &R, path: &[u8]) -> Option<R::File> {
+    let path = str::from_utf8(path).ok()?;
+    File::open(rt, path).ok()
+}
+
 // Does the task with each line of a file. None: not all of the file could be read, and a remark says so.
 fn file<R: Files + Input, W: Write, T: Task>(
     rt: &R,
     alloc: Global,
     out: &mut W,
-    path: &str,
+    path: &[u8],
     task: &mut T,
 ) -> io::Result<Option<Tally>> {
     report::remark(out, "", path)?;
-    if path == "-" {
+    if matches!(path, b"-") {
         return input::run(rt.reader(), alloc, out, task);
     }
-    match File::open(rt, path) {
-        Ok(file) => input::run(file, alloc, out, task),
-        Err(_) => {
+    // A pipe is open only when somebody begins to write into it.
+    out.flush()?;
+    match open(rt, path) {
+        Some(file) => input::run(file, alloc, out, task),
+        None => {
             report::remark(out, "cannot be opened: ", path)?;
             Ok(None)
         }
@@ -118,7 +126,7 @@ impl<R: Files + Input, W: Write + Drop> Checklist<'_, R, W> {
     }
 
     // Numbers the names of a file.
-    fn number(&mut self, path: &str) -> io::Result<bool> {
+    fn number(&mut self, path: &[u8]) -> io::Result<bool> {
         let mut task = Number {
             names: &mut self.names,
         };
@@ -132,19 +140,19 @@ impl<R: Files + Input, W: Write + Drop> Checklist<'_, R, W> {
     }
 
     // Reads the numbers of a file back.
-    fn read(&mut self, path: &str) -> io::Result<bool> {
+    fn read(&mut self, path: &[u8]) -> io::Result<bool> {
         let mut task = ReadBack { names: &self.names };
         let tally = file(self.rt, self.alloc, &mut self.out, path, &mut task)?;
         Ok(tally.is_some())
     }
 
     // Holds a numbering against a base. It uses the dictionary's memory, so a new dictionary is begun behind it.
-    fn hold(&mut self, base: &str, path: &str, role: Role) -> io::Result<bool> {
+    fn hold(&mut self, base: &[u8], path: &[u8], role: Role) -> io::Result<bool> {
         let done = self.hold_against(base, path, role)?;
         Ok(done && self.begin()?)
     }
 
-    fn hold_against(&mut self, base: &str, path: &str, role: Role) -> io::Result<bool> {
+    fn hold_against(&mut self, base: &[u8], path: &[u8], role: Role) -> io::Result<bool> {
         let mut held = Held::new(self.alloc, &mut self.names)?;
         let Some(of_base) = file(self.rt, self.alloc, &mut self.out, base, &mut held)? else {
             return Ok(false);
@@ -165,7 +173,7 @@ pub fn run<R: Files + Input, W: Write + Drop>(
     rt: &R,
     alloc: Global,
     out: W,
-    words: &[String],
+    words: &[Vec<u8>],
 ) -> io::Result<()> {
     let mut checklist = Checklist {
         rt,
@@ -175,12 +183,12 @@ pub fn run<R: Files + Input, W: Write + Drop>(
         blocks: Blocks::NEMO,
     };
     if words.is_empty() {
-        report::usage(&mut checklist.out, "none")?;
+        report::usage(&mut checklist.out, b"none")?;
     }
     let mut rest = words;
     while let Some((name, behind)) = rest.split_first() {
-        let Some((command, behind)) = named(name.as_str(), behind) else {
-            report::usage(&mut checklist.out, name.as_str())?;
+        let Some((command, behind)) = named(name.as_slice(), behind) else {
+            report::usage(&mut checklist.out, name.as_slice())?;
             break;
         };
         if !checklist.run(command)? {

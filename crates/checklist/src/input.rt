@@ -17,12 +17,16 @@ const LONGEST: usize = 65536;
 // What is read next.
 #[derive(Clone, Copy)]
 enum Next {
+    // A line that had its end, or what was left of one.
     Line,
-    TooLong,
+    // The last line, with no end behind it.
+    Last,
+    // As many bytes as the buffer has, with no end among them.
+    Piece,
     End,
 }
 
-// Reads the next line without its end. Of one that is too long only the front is kept.
+// Reads the next line without its end. One that is too long is read piece by piece.
 fn read_next<R: BufRead>(lines: &mut R, line: &mut Vec<u8>) -> io::Result<Next> {
     line.clear();
     let n = lines.by_ref().take(LONGEST as u64).read_until(b'\n', line)?;
@@ -34,10 +38,9 @@ fn read_next<R: BufRead>(lines: &mut R, line: &mut Vec<u8>) -> io::Result<Next> 
         return Ok(Next::Line);
     }
     if n < LONGEST {
-        return Ok(Next::Line);
+        return Ok(Next::Last);
     }
-    lines.skip_until(b'\n')?;
-    Ok(Next::TooLong)
+    Ok(Next::Piece)
 }
 
 // A line without each '\r' before the '\n', which some editors put there, and without the three bytes that some put at a file's start to mark it as
@@ -87,18 +90,31 @@ pub fn run<R: Read + Drop, W: Write, T: Task>(
     let mut lines = BufReader::with_capacity(alloc, LONGEST, file)?;
     let mut line = Vec::new(alloc);
     let mut tally = Tally::default();
+    // Whether what comes next belongs to a line that is too long, which is refused already.
+    let mut cut = false;
     for _ in 0..u64::MAX {
         // Whoever writes the input line by line has the answers to all lines before this one.
         if !lines.buffer().contains(&b'\n') {
             out.flush()?;
         }
         let Ok(next) = read_next(&mut lines, &mut line) else {
-            report::remark(out, "cannot be read to its end", "")?;
+            report::remark(out, "cannot be read to its end", b"")?;
             return Ok(None);
         };
         match next {
+            Next::Line if cut => cut = false,
             Next::Line => one(out, task, &mut tally, line.as_slice())?,
-            Next::TooLong => too_long(out, &mut tally, line.as_slice())?,
+            Next::Piece if cut => {}
+            Next::Piece => {
+                too_long(out, &mut tally, line.as_slice())?;
+                cut = true;
+            }
+            Next::Last => {
+                if !cut {
+                    one(out, task, &mut tally, line.as_slice())?;
+                }
+                break;
+            }
             Next::End => break,
         }
     }

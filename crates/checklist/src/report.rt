@@ -50,8 +50,10 @@ impl Display for Refusal {
     }
 }
 
-pub fn remark<W: Write>(out: &mut W, what: &str, which: &str) -> io::Result<()> {
-    writeln!(out, "# {what}{which}")
+pub fn remark<W: Write>(out: &mut W, what: &str, which: &[u8]) -> io::Result<()> {
+    write!(out, "# {what}")?;
+    out.write_all(which)?;
+    writeln!(out)
 }
 
 // Prints a number, and a line or a name behind it.
@@ -87,7 +89,7 @@ pub fn numbered<W: Write>(out: &mut W, tally: &Tally) -> io::Result<()> {
     writeln!(out, "# {fresh} fresh, {known} known, {refused} refused")
 }
 
-pub fn usage<W: Write>(out: &mut W, word: &str) -> io::Result<()> {
+pub fn usage<W: Write>(out: &mut W, word: &[u8]) -> io::Result<()> {
     remark(out, "not a command with its words: ", word)?;
     let commands = "number FILE, read FILE, compare FILE FILE, pair FILE FILE, blocks WIDTH COUNT";
     writeln!(
