@@ -35,7 +35,7 @@ impl<'a> Words<'a> {
         value
     }
 
-    // The part in front, if it has at most `room` bytes.
+    // The part in front, without the runs for which `room` bytes are too few.
     fn part(&mut self, alloc: Global, room: usize) -> Result<Vec<u8>, AllocError> {
         let line = self.rest;
         let end = lines::end_of(line, 0, b' ');

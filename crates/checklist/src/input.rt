@@ -88,7 +88,8 @@ pub fn run<R: Read + Drop, W: Write, T: Task>(
     task: &mut T,
 ) -> io::Result<Option<Tally>> {
     let mut lines = BufReader::with_capacity(alloc, LONGEST, file)?;
-    let mut line = Vec::new(alloc);
+    // A line has this much room from the start, so no memory is asked for while it is read.
+    let mut line = Vec::with_capacity(alloc, LONGEST)?;
     let mut tally = Tally::default();
     // Whether what comes next belongs to a line that is too long, which is refused already.
     let mut cut = false;
