@@ -43,7 +43,7 @@ impl<'a> Words<'a> {
         part(alloc, &line[..end], room)
     }
 
-    // Two parts.
+    // Two parts. What the first leaves is the room of the second.
     pub fn parts(&mut self, alloc: Global) -> Result<(Vec<u8>, Vec<u8>), AllocError> {
         let first = self.part(alloc, LONGEST)?;
         let second = self.part(alloc, LONGEST.saturating_sub(first.len()))?;
