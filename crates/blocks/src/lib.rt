@@ -8,9 +8,11 @@ ghost use Rattle.layout.specs.Sizes.{InRange, kinds, list_bytes};
 ghost use Rattle.layout.specs.Fields.{blocks_at, local_at};
 ghost use Rattle.blocks.specs.Blocks.{search};
 ghost use Rattle.blocks.specs.Tables.{owner_in};
-ghost use Rattle.blocks.specs.Answers.{allocated, Allocates, held_by, block_written};
+ghost use Rattle.blocks.specs.Answers.{found, Allocates, held_by, block_written};
 
 use layout::{KINDS, OWNERS, Sizes};
+use refusals::Refusal;
+use words::WORD;
 
 // A number within its kind.
 #[derive(Clone, Copy)]
@@ -25,56 +27,37 @@ pub fn block_size(s: Sizes) -> usize
     1 << w
 }
 
-// What the search for a block finds. Bad: the memory is no dictionary's.
-#[derive(Clone, Copy)]
-pub enum Allocated {
-    Block(usize),
-    NoBlock,
-    Bad,
-}
-
 // The first free block, from the block `from` up.
-fn first_free(lists: &[u8], s: Sizes, from: usize) -> Allocated
+fn first_free(lists: &[u8], s: Sizes, from: usize) -> Option<usize>
     requires { InRange s × (list_bytes s ≤ length lists.now) }
-    ensures { result ≡ allocated (search (owner_in lists.now (blocks_at s kinds)) from (s.b - from)) }
+    ensures { result ≡ found (search (owner_in lists.now (blocks_at s kinds)) from (s.b - from)) }
 {
-    let b = s.b;
     let at = layout::blocks_at(s, KINDS);
-    let mut g = from;
-    while g < b {
-        if words::word_at(lists, at + g) == 0 {
-            return Allocated::Block(g);
-        }
-        g += 1;
-    }
-    Allocated::NoBlock
+    (from..s.b).find(|&g| words::number_at::<WORD>(lists, at + g) == 0)
 }
 
-// The global block that holds a local block. Bad: the memory is no dictionary's.
-#[derive(Clone, Copy)]
-pub enum Held {
-    In(usize),
-    Bad,
-}
-
-// The global block that holds the kind k's local block l.
-pub fn held_in(lists: &[u8], s: Sizes, k: usize, l: usize) -> Held
+// The global block that holds the kind k's local block l. Unopened: the memory is no dictionary's.
+pub fn held_in(lists: &[u8], s: Sizes, k: usize, l: usize) -> Result<usize, Refusal>
     requires { InRange s × (list_bytes s ≤ length lists.now) × (k < kinds) × (l < s.b) }
     ensures { result ≡ held_by s.b (word_at lists.now (local_at s k l)) }
 {
-    let x = words::word_at(lists, layout::blocks_at(s, k) + l);
+    let x = words::number_at::<WORD>(lists, layout::blocks_at(s, k) + l);
     if x == 0 {
-        return Held::Bad;
+        return Err(Refusal::Unopened);
     }
     if s.b < x {
-        return Held::Bad;
+        return Err(Refusal::Unopened);
     }
-    let g = x - 1;
-    Held::In(g)
+    Ok(x - 1)
 }
 
-// The block of the kind k's next local number.
-pub fn allocate_block(lists: &[u8], s: Sizes, k: usize, local: LocalId) -> Allocated
+// The block of the kind k's next local number. None: no block is left. Unopened: the memory is no dictionary's.
+pub fn allocate_block(
+    lists: &[u8],
+    s: Sizes,
+    k: usize,
+    local: LocalId,
+) -> Result<Option<usize>, Refusal>
     requires { InRange s × (list_bytes s ≤ length lists.now) × (k < kinds) }
     ensures { Allocates s lists.now k local.0 result }
 {
@@ -83,22 +66,18 @@ pub fn allocate_block(lists: &[u8], s: Sizes, k: usize, local: LocalId) -> Alloc
     let l = n / size;
     // Each earlier local block has taken a global one, so none is left for this one.
     if s.b <= l {
-        return Allocated::NoBlock;
+        return Ok(None);
     }
     if n % size != 0 {
-        let Held::In(g) = held_in(lists, s, k, l) else {
-            return Allocated::Bad;
-        };
-        return Allocated::Block(g);
+        let g = held_in(lists, s, k, l)?;
+        return Ok(Some(g));
     }
     if l == 0 {
-        return first_free(lists, s, 0);
+        return Ok(first_free(lists, s, 0));
     }
     let before = l - 1;
-    let Held::In(g) = held_in(lists, s, k, before) else {
-        return Allocated::Bad;
-    };
-    first_free(lists, s, g + before)
+    let g = held_in(lists, s, k, before)?;
+    Ok(first_free(lists, s, g + before))
 }
 
 // Writes that the kind k's local number is in the block g.
@@ -108,6 +87,6 @@ pub fn take_block(lists: &mut [u8], s: Sizes, k: usize, local: LocalId, g: usize
 {
     let n = local.0;
     let l = n / block_size(s);
-    words::put_word(lists, layout::blocks_at(s, k) + l, g + 1);
-    words::put_word(lists, layout::blocks_at(s, KINDS) + g, 1 + k + OWNERS * l);
+    words::put_number::<WORD>(lists, layout::blocks_at(s, k) + l, g + 1);
+    words::put_number::<WORD>(lists, layout::blocks_at(s, KINDS) + g, 1 + k + OWNERS * l);
 }

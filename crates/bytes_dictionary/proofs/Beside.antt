@@ -1,7 +1,7 @@
 -- What an insert leaves as found: the header, the blocks' words, what lies past the sizes, and what another dictionary's insert was planned on.
 -- Assumes nothing.
 use Prim.Native.Nat.{ℕ, ◌+◌, ◌*◌, ◌≤◌, ◌<◌}
-use mathlib.Core.Path.{◌≡◌, refl, sym, ap, subst, ◌∙◌}
+use mathlib.Core.Path.{◌≡◌, sym, ap, subst, ◌∙◌}
 use mathlib.Core.Logic.{◌≢◌, ◌⊎◌, inl, inr}
 use native.Mathlib.Omega.{arith}
 use lib.ListN.{length, get_or}
@@ -19,7 +19,7 @@ use Rattle.bytes_index.specs.Place.{place_after}
 use Rattle.bytes_index.specs.Entries.{Entries, Misses}
 use Rattle.bytes_index.proofs.Place.{place-lt}
 use Rattle.bytes_buffer.specs.declared.Spot.{Spot}
-use Rattle.bytes_buffer.specs.declared.Spot.TheVariants.{Current, Next, NoPage, Bad}
+use Rattle.bytes_buffer.specs.declared.Spot.TheVariants.{Current, Next}
 use Rattle.page_words.proofs.Words.{extended-other, extended-beyond, took-other, took-beyond}
 use Rattle.bytes_entry.specs.Written.{entry_written}
 use Rattle.bytes_dictionary.specs.Written.{pages_after, lists_after, HasRoom}
@@ -49,8 +49,6 @@ module _ (s : Sizes) (lists : Bytes) (d n at : ℕ) (stamp : ℕ) (key : Bytes) 
   words-beside (Next page) h j b =
       let a = apart j b page h.0 in
       took-other _ d page (length key) j a.0 a.1 a.2 a.3 ∙ word_kept s lists d n page 0 (length key) stamp at (fnv_of key) r f dl nl pl j (off j b)
-  words-beside NoPage h j b = refl
-  words-beside Bad h j b = refl
 
   -- A place of another dictionary.
   pub places-beside : (spot : Spot) → HasRoom s (length key) spot → (k j : ℕ) → k ≢ d → j < 2 * s.e
@@ -62,8 +60,6 @@ module _ (s : Sizes) (lists : Bytes) (d n at : ℕ) (stamp : ℕ) (key : Bytes) 
   places-beside (Next page) h k j q l =
       (beyond-took s _ d page (length key) dl h.0).quads (place_at s k j) (omega (arith, dict-from s k))
       ∙ place_kept s lists d n page 0 (length key) stamp at (fnv_of key) r f dl nl pl k j l (λ e. absurd (q e))
-  places-beside NoPage h k j q l = refl
-  places-beside Bad h k j q l = refl
 
   -- A byte past the dictionaries' words.
   entry-byte : (page offset i : ℕ) → 8 * dict_at s dictionaries ≤ i → get_or (entry_written s lists d n page offset (length key) stamp at (fnv_of key)) i 0 ≡ get_or lists i 0
@@ -81,8 +77,6 @@ module _ (s : Sizes) (lists : Bytes) (d n at : ℕ) (stamp : ℕ) (key : Bytes) 
   bytes-beside (Current page offset) h i l =
       extended-beyond _ page (offset + length key) i (omega (arith, h.0, dict-from s dictionaries)) ∙ entry-byte page offset i l
   bytes-beside (Next page) h i l = took-beyond _ d page (length key) dl i (omega (arith, h.0, dict-from s dictionaries)) ∙ entry-byte page 0 i l
-  bytes-beside NoPage h i l = refl
-  bytes-beside Bad h i l = refl
 
 -- A byte past the pages.
 pub pages-beside : (s : Sizes) (pages key : Bytes) (spot : Spot) → HasRoom s (length key) spot → (i : ℕ) → page_bytes s ≤ i
@@ -94,8 +88,6 @@ pages-beside s pages key (Current page offset) h i l =
 pages-beside s pages key (Next page) h i l =
     let b = in-pages s page (length key) h.0 h.1 in
     get_d-sets-out key pages (page * page_size s + 0) i (λ x g. omega arith)
-pages-beside s pages key NoPage h i l = refl
-pages-beside s pages key Bad h i l = refl
 
 -- A search that ended at a free place ends there again where the places are the same.
 pub misses-kept : (s : Sizes) (Q Q' : ℕ → ℕ) (es : Entries) (key : Bytes) (j : ℕ) → ((k : ℕ) → k < 2 * s.e → Q' k ≡ Q k) → Misses s Q es key j → Misses s Q' es key j

@@ -5,7 +5,7 @@ use mathlib.Core.Option.{none, some}
 use native.Mathlib.Omega.{arith}
 use lib.ListN.{length, get_or}
 use Rattle.slices.specs.Bytes.{Bytes}
-use Rattle.words.specs.Words.{le_at, word_at, quad_at}
+use Rattle.words.specs.Words.{le_at, word_at, quad_at, number_at}
 use Rattle.words.proofs.Laws.{quad-zero}
 use Rattle.layout.specs.declared.Sizes.{Sizes}
 use Rattle.layout.specs.Sizes.{InRange, page_bytes, list_bytes}
@@ -35,7 +35,7 @@ le-zeros (suc n) s b z (suc k) l =
 
 -- Both quads of a word that is 0 are 0.
 quad-in-zero : (s : Bytes) (q : ℕ) → word_at s (q / 2) ≡ 0 → quad_at s q ≡ 0
-unfolding word_at
+unfolding number_at
 quad-in-zero s q z =
     quad-zero s q
     (λ k h.

@@ -3,16 +3,16 @@ use Prim.Native.Nat.{ℕ, ◌≤◌, ◌<◌}
 use mathlib.Core.Path.{◌≡◌, ◌∙◌}
 use native.Mathlib.Omega.{arith}
 use lib.ListN.{length}
+use Rattle.std.specs.Prelude.{Ok}
 use Rattle.slices.specs.Bytes.{Bytes}
 use Rattle.words.specs.Words.{word_at}
 use Rattle.layout.specs.declared.Sizes.{Sizes}
 use Rattle.layout.specs.Sizes.{page_bytes, list_bytes}
-use Rattle.header.specs.declared.Header.TheVariants.{Opened}
 use Rattle.header.specs.Header.{sizes_in, header_of, HeaderOf}
 use Rattle.header.proofs.Opening.{passes}
 use Rattle.bytes_dictionary.specs.Store.{Store, StoreAt}
 
-pub store-passes : (s : Sizes) (st : Store) (pages lists : Bytes) → StoreAt s st pages lists → header_of (length pages) lists ≡ Opened s
+pub store-passes : (s : Sizes) (st : Store) (pages lists : Bytes) → StoreAt s st pages lists → header_of (length pages) lists ≡ Ok s
 store-passes s st pages lists S = passes s pages lists S.header
 
 pub header-kept : (s : Sizes) (pages pages' : ℕ) (lists lists' : Bytes) → page_bytes s ≤ pages' → list_bytes s ≤ length lists'

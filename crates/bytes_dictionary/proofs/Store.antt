@@ -1,7 +1,7 @@
 -- The store is kept through every insert: the key has the next number, and every entry of every dictionary keeps its number and its bytes.
 -- Assumes nothing.
 use Prim.Native.Nat.{ℕ, ◌+◌, ◌-◌, ◌*◌, ◌^◌, ◌≤◌, ◌<◌}
-use mathlib.Core.Path.{◌≡◌, refl, sym, ap, subst, ◌∙◌}
+use mathlib.Core.Path.{◌≡◌, sym, ap, subst, ◌∙◌}
 use mathlib.Core.Logic.{inl, inr}
 use mathlib.Core.Bool.{true, false}
 use mathlib.Core.Option.{some}
@@ -9,7 +9,10 @@ use native.Mathlib.Omega.{arith}
 use native.Mathlib.Decide.{ℕ_discrete, dec_lt}
 use lib.ListN.{length}
 use lib.Seq.{sets, length-sets}
+use Rattle.std.specs.Prelude.{Result, Ok, Err}
 use Rattle.slices.specs.Bytes.{Bytes}
+use Rattle.refusals.specs.declared.Refusal.{Refusal}
+use Rattle.refusals.specs.declared.Refusal.TheVariants.{NoPage}
 use Rattle.slices.proofs.Tests.{Split, split}
 use Rattle.words.specs.Words.{word_at, quad_at}
 use Rattle.fnv.specs.Fnv.{fnv_of}
@@ -21,7 +24,7 @@ use Rattle.layout.specs.Lent.{Lent}
 use Rattle.bytes_index.specs.Entries.{Entries, Misses}
 use Rattle.bytes_index.proofs.Index.{place-fits}
 use Rattle.bytes_buffer.specs.declared.Spot.{Spot}
-use Rattle.bytes_buffer.specs.declared.Spot.TheVariants.{Current, Next, NoPage, Bad}
+use Rattle.bytes_buffer.specs.declared.Spot.TheVariants.{Current, Next}
 use Rattle.bytes_buffer.specs.Pages.{fits, upd, grown_at, all_pages}
 use Rattle.page_words.specs.Written.{extended_page, took_page}
 use Rattle.bytes_buffer.specs.Spots.{next_of, current_of, spot_in}
@@ -33,7 +36,7 @@ use Rattle.bytes_buffer.proofs.Tables.{SameTables, framed, current-below}
 use Rattle.bytes_buffer.proofs.Plans.{plan-fit, plan-unfit}
 use Rattle.bytes_buffer.proofs.Commits.{extended-holds, took-holds}
 use Rattle.bytes_entry.specs.Written.{entry_written}
-use Rattle.bytes_dictionary.specs.Written.{pages_after, lists_after, IsSpot}
+use Rattle.bytes_dictionary.specs.Written.{pages_after, lists_after}
 use Rattle.bytes_dictionary.specs.Store.{Store, inserted, DictAt, StoreAt}
 use Rattle.bytes_dictionary.specs.Ready.{Ready}
 use Rattle.bytes_dictionary.proofs.Updates.{upd_same, upd_other, upd-each, more-old}
@@ -49,15 +52,11 @@ pub length-pages : (s : Sizes) (pages : Bytes) (spot : Spot) (key : Bytes) → l
 unfolding pages_after
 length-pages s pages (Current page offset) key = length-sets pages (page * page_size s + offset) key
 length-pages s pages (Next page) key = length-sets pages (page * page_size s + 0) key
-length-pages s pages NoPage key = refl
-length-pages s pages Bad key = refl
 
 pub length-lists : (s : Sizes) (lists : Bytes) (d n place : ℕ) (spot : Spot) (stamp : ℕ) (key : Bytes) → length (lists_after s lists d n place spot stamp key) ≡ length lists
 unfolding lists_after
 length-lists s lists d n place (Current page offset) stamp key = length-extended _ page (offset + length key) ∙ length-written s lists d n page offset (length key) stamp place (fnv_of key)
 length-lists s lists d n place (Next page) stamp key = length-took _ d page (length key) ∙ length-written s lists d n page 0 (length key) stamp place (fnv_of key)
-length-lists s lists d n place NoPage stamp key = refl
-length-lists s lists d n place Bad stamp key = refl
 
 -- ---- one insert
 
@@ -167,16 +166,19 @@ module _ (s : Sizes) (st : Store) (pages lists : Bytes) (d place stamp : ℕ) (k
       (length-lists s lists d (st.count d) place (Next g) stamp key)
       (λ j h. words-beside s lists d (st.count d) place stamp key F.ranged F.lists-fit F.known room pl (Next g) (p, short) j (inl h))
 
-  pub store-more : (spot : Spot) → spot_in s (word_at lists) d (word_at lists untaken_at) (length key) ≡ spot → IsSpot spot
+  pub store-more : (spot : Spot) → spot_in s (word_at lists) d (word_at lists untaken_at) (length key) ≡ Ok spot
       → StoreAt s (inserted s st d key stamp) (pages_after s pages spot key) (lists_after s lists d (st.count d) place spot stamp key)
-  store-more spot q ok = go (split (fits s.p (st.space d) (length key))) (dec_lt (all_pages st.space) s.n)
+  store-more spot q = go (split (fits s.p (st.space d) (length key))) (dec_lt (all_pages st.space) s.n)
     where
       W : ℕ → ℕ
       W = word_at lists
 
-      at-spot : {x : Spot} → spot ≡ x → StoreAt s (inserted s st d key stamp) (pages_after s pages x key) (lists_after s lists d (st.count d) place x stamp key)
+      at-spot : {x : Spot} → ◌≡◌ {A = Result Spot Refusal} (Ok spot) (Ok x)
+          → StoreAt s (inserted s st d key stamp) (pages_after s pages x key) (lists_after s lists d (st.count d) place x stamp key)
           → StoreAt s (inserted s st d key stamp) (pages_after s pages spot key) (lists_after s lists d (st.count d) place spot stamp key)
-      at-spot e h = subst (λ (y : Spot). StoreAt s (inserted s st d key stamp) (pages_after s pages y key) (lists_after s lists d (st.count d) place y stamp key)) (sym e) h
+      at-spot {x} e h =
+          let f : spot ≡ x = cc in
+          subst (λ (y : Spot). StoreAt s (inserted s st d key stamp) (pages_after s pages y key) (lists_after s lists d (st.count d) place y stamp key)) (sym f) h
 
       low : W untaken_at ≡ all_pages st.space
       low = S.paged.lowest
@@ -187,8 +189,10 @@ module _ (s : Sizes) (st : Store) (pages lists : Bytes) (d place stamp : ℕ) (k
       go (inr e) (yes h) =
           at-spot (sym q ∙ plan-unfit s st.space W d (W untaken_at) (length key) S.paged F.known e ∙ ap (next_of s) low ∙ next-is s (all_pages st.space) h) (store-next e h)
       go (inr e) (no h) =
-          absurd
-          (subst IsSpot (sym q ∙ plan-unfit s st.space W d (W untaken_at) (length key) S.paged F.known e ∙ ap (next_of s) low ∙ next-none s (all_pages st.space) (omega arith)) ok)
+          let f : ◌≡◌ {A = Result Spot Refusal} (Ok spot) (Err NoPage) =
+          sym q ∙ plan-unfit s st.space W d (W untaken_at) (length key) S.paged F.known e ∙ ap (next_of s) low ∙ next-none s (all_pages st.space) (omega arith) in
+          let z : ◌≡◌ {A = ℕ} 0 1 = cc in
+          absurd (omega arith)
 
 -- ---- every insert
 
@@ -201,7 +205,6 @@ store-insert s st pages lists d place spot stamp key r f g S R =
     (R.searched.right (st.entries d) (S.dict d R.known).holds)
     spot
     R.planned
-    R.spotted
 
 -- ---- numbers
 

@@ -1,8 +1,7 @@
 -- The stores of an insert put together, for each spot; and the spots that a plan gives. Assumes nothing.
-use Prim.Native.Nat.{ℕ, ◌+◌, ◌*◌, ◌≤◌, ◌<◌}
-use mathlib.Core.Path.{◌≡◌, refl, ap, ◌∙◌}
-use mathlib.Core.Logic.{◌⊎◌, inl, inr, ⊎_elim}
-use native.Mathlib.Omega.{arith}
+use Prim.Native.Nat.{ℕ, ◌+◌, ◌*◌, ◌≤◌}
+use mathlib.Core.Path.{◌≡◌, refl}
+use Rattle.std.specs.Prelude.{Ok}
 use lib.ListN.{length}
 use lib.Seq.{sets}
 use Rattle.slices.specs.Bytes.{Bytes}
@@ -10,74 +9,44 @@ use Rattle.fnv.specs.Fnv.{fnv_of}
 use Rattle.layout.specs.declared.Sizes.{Sizes}
 use Rattle.layout.specs.Sizes.{page_size}
 use Rattle.bytes_buffer.specs.declared.Spot.{Spot}
-use Rattle.bytes_buffer.specs.declared.Spot.TheVariants.{Current, Next, NoPage, Bad}
+use Rattle.bytes_buffer.specs.declared.Spot.TheVariants.{Current, Next}
 use Rattle.page_words.specs.Written.{extended_page, took_page}
 use Rattle.bytes_buffer.specs.Spots.{InPages}
-use Rattle.bytes_dictionary.specs.declared.Room.TheVariants.{At, Nothing}
+use Rattle.bytes_entry.specs.declared.Extent.{Extent}
 use Rattle.bytes_entry.specs.Written.{entry_written}
-use Rattle.bytes_dictionary.specs.Written.{pages_after, lists_after, room_of, HasRoom}
-
--- ---- the spots and their rooms
-
-no_room : (spot : Spot) → room_of spot ≡ Nothing → (spot ≡ NoPage) ⊎ (spot ≡ Bad)
-no_room (Current page offset) e = let z : ◌≡◌ {A = ℕ} 0 1 = cc in absurd (omega arith)
-no_room (Next page) e = let z : ◌≡◌ {A = ℕ} 0 1 = cc in absurd (omega arith)
-no_room NoPage e = inl refl
-no_room Bad e = inr refl
-
--- The room has what the spot has.
-pub room_fits : (s : Sizes) (len : ℕ) (spot : Spot) (page offset : ℕ) → HasRoom s len spot → room_of spot ≡ At page offset
-    → (page < s.n) × (offset + len ≤ page_size s)
-room_fits s len (Current p o) page offset h e =
-    let u : p ≡ page = cc in
-    let v : o ≡ offset = cc in
-    (omega (arith, h.0), omega (arith, h.1))
-room_fits s len (Next p) page offset h e =
-    let u : p ≡ page = cc in
-    let v : ◌≡◌ {A = ℕ} 0 offset = cc in
-    (omega (arith, h.0), omega (arith, h.1))
-room_fits s len NoPage page offset h e = let z : ◌≡◌ {A = ℕ} 0 1 = cc in absurd (omega arith)
-room_fits s len Bad page offset h e = let z : ◌≡◌ {A = ℕ} 0 1 = cc in absurd (omega arith)
-
-pub room-current : (spot : Spot) (p o page offset : ℕ) → spot ≡ Current p o → room_of spot ≡ At page offset → spot ≡ Current page offset
-room-current spot p o page offset e r =
-    let f : At p o ≡ At page offset = rw e at r in
-    let u : p ≡ page = cc in
-    let v : o ≡ offset = cc in
-    e ∙ (λ i. Current (u i) (v i))
-
-pub room_next : (spot : Spot) (p page offset : ℕ) → spot ≡ Next p → room_of spot ≡ At page offset → (spot ≡ Next page) × (offset ≡ 0)
-room_next spot p page offset e r =
-    let f : At p 0 ≡ At page offset = rw e at r in
-    let u : p ≡ page = cc in
-    let v : offset ≡ 0 = cc in
-    (e ∙ ap Next u, v)
+use Rattle.bytes_dictionary.specs.Written.{pages_after, lists_after, page_at, offset_at, HasRoom}
 
 -- ---- the stores
 
-module _ (s : Sizes) (pages lists : Bytes) (d n place : ℕ) (spot : Spot) (stamp : ℕ) (key : Bytes) where
-  abbrev pub After : Bytes → Bytes → Type 0
-  After pages' lists' = (pages' ≡ pages_after s pages spot key) × (lists' ≡ lists_after s lists d n place spot stamp key)
+-- The bytes of an entry that lies at its spot.
+pub pages-put : (s : Sizes) (pages : Bytes) (spot : Spot) (key : Bytes) (lies : Extent) → lies.page ≡ page_at spot → lies.offset ≡ offset_at spot
+    → sets pages (lies.page * page_size s + lies.offset) key ≡ pages_after s pages spot key
+unfolding pages_after
+pages-put s pages (Current page offset) key lies a b = rw (a, b) refl
+pages-put s pages (Next page) key lies a b = rw (a, b) refl
 
-  pub after-current : (page offset len h : ℕ) (pages' lists₁ lists₂ : Bytes) → spot ≡ Current page offset → len ≡ length key → h ≡ fnv_of key
-      → pages' ≡ sets pages (page * page_size s + offset) key → lists₁ ≡ entry_written s lists d n page offset len stamp place h
-      → lists₂ ≡ extended_page lists₁ page (offset + len) → After pages' lists₂
-  unfolding pages_after lists_after
-  after-current page offset len h pages' lists₁ lists₂ e l f p q r = rw e (p, cc)
+module _ (s : Sizes) (lists : Bytes) (d n place : ℕ) (spot : Spot) (stamp : ℕ) (key : Bytes) (lies : Extent) (a : lies.page ≡ page_at spot)
+    (b : lies.offset ≡ offset_at spot) (c : lies.len ≡ length key) where
+  -- The words of the entry, then those of its page.
+  pub lists-current : (page offset len h : ℕ) (lists₁ lists₂ : Bytes) → spot ≡ Current page offset → len ≡ length key → h ≡ fnv_of key
+      → lists₁ ≡ entry_written s lists d n lies.page lies.offset lies.len stamp place h → lists₂ ≡ extended_page lists₁ page (offset + len)
+      → lists₂ ≡ lists_after s lists d n place spot stamp key
+  unfolding lists_after
+  lists-current page offset len h lists₁ lists₂ e l f q r =
+      let a' : lies.page ≡ page = rw e at a in
+      let b' : lies.offset ≡ offset = rw e at b in
+      rw e cc
 
-  pub after_next : (page len h : ℕ) (pages' lists₁ lists₂ : Bytes) → spot ≡ Next page → len ≡ length key → h ≡ fnv_of key
-      → pages' ≡ sets pages (page * page_size s + 0) key → lists₁ ≡ entry_written s lists d n page 0 len stamp place h
-      → lists₂ ≡ took_page lists₁ d page len → After pages' lists₂
-  unfolding pages_after lists_after
-  after_next page len h pages' lists₁ lists₂ e l f p q r = rw e (p, cc)
-
-  pub after_none : room_of spot ≡ Nothing → After pages lists
-  unfolding pages_after lists_after
-  after_none e = ⊎_elim (λ p. rw p (refl, refl)) (λ p. rw p (refl, refl)) (no_room spot e)
+  pub lists-next : (page len h : ℕ) (lists₁ lists₂ : Bytes) → spot ≡ Next page → len ≡ length key → h ≡ fnv_of key
+      → lists₁ ≡ entry_written s lists d n lies.page lies.offset lies.len stamp place h → lists₂ ≡ took_page lists₁ d page len
+      → lists₂ ≡ lists_after s lists d n place spot stamp key
+  unfolding lists_after
+  lists-next page len h lists₁ lists₂ e l f q r =
+      let a' : lies.page ≡ page = rw e at a in
+      let b' : lies.offset ≡ 0 = rw e at b in
+      rw e cc
 
 -- A plan's spot has room for what was planned.
-pub plan-room : (s : Sizes) (u len : ℕ) (spot : Spot) → len ≤ page_size s → InPages s u len spot → HasRoom s len spot
+pub plan-room : (s : Sizes) (u len : ℕ) (spot : Spot) → len ≤ page_size s → InPages s u len (Ok spot) → HasRoom s len spot
 plan-room s u len (Current page offset) l p = p
 plan-room s u len (Next page) l p = (p.1, l)
-plan-room s u len NoPage l p = tt
-plan-room s u len Bad l p = tt

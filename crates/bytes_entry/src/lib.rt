@@ -11,17 +11,17 @@ ghost use Rattle.bytes_entry.specs.Written.{entry_written};
 
 use bytes_key::Key;
 use layout::{COUNT, ENTRY_NUMBERS, LENGTH, PAGE_NUMBERS, STRIDE, Sizes};
+use words::{QUAD, WORD};
 
 // Writes a key at the start of its page's tail: its front, and the rest behind it.
 fn write_tail(tail: &mut [u8], key: Key, front: &[u8], rest: &[u8])
     requires { length (bytes_in key front.now rest.now) ≤ length tail.old }
     ensures { tail.new ≡ sets tail.old 0 (bytes_in key front.now rest.now) }
 {
-    let mode = key.front;
-    let restmode = key.rest;
-    let m = parts::measure(mode, front);
-    parts::write(mode, front, tail);
-    parts::write(restmode, rest, &mut tail[m..]);
+    let (front, rest) = key.parts(front, rest);
+    let m = front.measure();
+    front.write(tail);
+    rest.write(&mut tail[m..]);
 }
 
 // Writes a key at `at` in the pages. Its page ends at `end`. The byte writer is lent only the tail from `at` to `end`, no byte of another page.
@@ -65,6 +65,7 @@ pub struct NewEntry {
 }
 
 // Writes the words of a fresh entry of dictionary d, whose key has the hash h: where it lies, its stamp, the place that names it, and the count.
+#[tactic(auto, using(crate::proofs::Inside::inside), unfolding(layout::specs::Sizes::list_bytes))]
 fn write_entry(lists: &mut [u8], s: Sizes, d: usize, h: u32, x: NewEntry, lies: Extent)
     requires in_range { InRange s × (list_bytes s ≤ length lists.old) × (d < dictionaries) × (x.n < s.e) × (x.place < 2 * s.e) }
     requires page_bound { (lies.page < 1024) × (lies.offset ≤ 1048576) × (lies.len ≤ 1048576) }
@@ -73,13 +74,14 @@ fn write_entry(lists: &mut [u8], s: Sizes, d: usize, h: u32, x: NewEntry, lies: 
     let e = s.e;
     let n = x.n;
     let base = layout::dict_at(s, d);
-    words::put_word(lists, base + n, entry_word(lies));
-    words::put_word(lists, base + (e + n), x.stamp);
-    words::put_quad(lists, 2 * (base + 2 * e) + x.place, place_word(n, h));
-    words::put_word(lists, COUNT + STRIDE * d, n + 1);
+    words::put_number::<WORD>(lists, base + n, entry_word(lies));
+    words::put_number::<WORD>(lists, base + (e + n), x.stamp);
+    words::put_number::<QUAD>(lists, 2 * (base + 2 * e) + x.place, place_word(n, h));
+    words::put_number::<WORD>(lists, COUNT + STRIDE * d, n + 1);
 }
 
 // Writes an entry's bytes and its words.
+#[tactic(auto, using(crate::proofs::Inside::page_in))]
 pub fn place_entry(
     pages: &mut [u8],
     lists: &mut [u8],

@@ -3,3 +3,4 @@ pub mod Place
 pub mod Filled
 pub mod Index
 pub mod Stored
+pub mod Inside

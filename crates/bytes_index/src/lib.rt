@@ -12,88 +12,96 @@ ghost use Rattle.bytes_index.specs.Search.{Searched};
 
 use bytes_key::Key;
 use layout::{ENTRY_NUMBERS, LENGTH, OFFSETS, PAGE_NUMBERS, Sizes};
+use refusals::Refusal;
+use words::{QUAD, WORD};
 
-// A search ends at the entry of its key, or at an empty place. Bad: the memory is no dictionary's.
+// A search ends at the entry of its key, or at an empty place.
 #[derive(Clone, Copy)]
 pub enum Probe {
     At(usize),
     Free(usize),
-    Bad,
 }
 
-// Where an entry's bytes lie in the pages. Bad: the memory is no dictionary's.
+// Where an entry's bytes lie in the pages.
 #[derive(Clone, Copy)]
-pub enum Span {
-    At { at: usize, len: usize },
-    Bad,
+pub struct Span {
+    pub at: usize,
+    pub len: usize,
 }
 
-// Where the bytes of entry i of dictionary d lie.
-pub fn entry(lists: &[u8], s: Sizes, d: usize, i: usize) -> Span
+// Where the bytes of entry i of dictionary d lie. Unopened: its word is no dictionary's.
+#[tactic(auto, using(crate::proofs::Inside::inside))]
+pub fn entry(lists: &[u8], s: Sizes, d: usize, i: usize) -> Result<Span, Refusal>
     requires { InRange s × (list_bytes s ≤ length lists.now) × (d < dictionaries) × (i < s.e) }
     ensures { SpanOf s (word_at lists.now (entry_at s d i)) result }
 {
-    let w = words::word_at(lists, layout::dict_at(s, d) + i);
+    let w = words::number_at::<WORD>(lists, layout::dict_at(s, d) + i);
     let page = w % PAGE_NUMBERS;
     let offset = w / PAGE_NUMBERS % OFFSETS;
     let len = w / LENGTH;
     let size = layout::page_size(s);
     if s.n <= page {
-        return Span::Bad;
+        return Err(Refusal::Unopened);
     }
     if size < offset + len {
-        return Span::Bad;
+        return Err(Refusal::Unopened);
     }
     let start = page * size;
     let at = start + offset;
-    Span::At { at, len }
+    Ok(Span { at, len })
 }
 
 // Searches the index of a key's dictionary. It goes from the key's hash up, over at most 2e places, to the key's entry or the first empty place.
-// An entry whose hash has other top bits has another key.
-fn probe_index(pages: &[u8], lists: &[u8], s: Sizes, key: Key, front: &[u8], rest: &[u8]) -> Probe
+// An entry whose hash has other top bits has another key. Unopened: the memory is no dictionary's.
+#[tactic(auto, using(crate::proofs::Inside::inside))]
+fn probe_index(
+    pages: &[u8],
+    lists: &[u8],
+    s: Sizes,
+    key: Key,
+    front: &[u8],
+    rest: &[u8],
+) -> Result<Probe, Refusal>
     requires { Lent s pages.now lists.now dictionaries key.d × IsKey key front.now rest.now }
     ensures { Searched s key.d pages.now lists.now (bytes_in key front.now rest.now) result }
 {
     let e = s.e;
     let m = 2 * e;
     let d = key.d;
-    let mode = key.front;
-    let restmode = key.rest;
+    let (front, rest) = key.parts(front, rest);
     let places = 2 * (layout::dict_at(s, d) + m);
-    let measured = parts::measure(mode, front);
-    let n = parts::measure(restmode, rest);
+    let measured = front.measure();
+    let n = rest.measure();
     let top = bytes_key::top_bits(key.h);
     let mut j = bytes_key::start(key.h, m);
     let mut t = 0;
     let mut w = 0;
+    // Kept: the customer's document names this form, a loop with a label that is left from inside the comparison of bytes.
     'probe: loop {
         if t == m {
-            return Probe::Bad;
+            return Err(Refusal::Unopened);
         }
-        let q = words::quad_at(lists, places + j);
+        let q = words::number_at::<QUAD>(lists, places + j);
         if q == 0 {
-            return Probe::Free(j);
+            return Ok(Probe::Free(j));
         }
         if q / ENTRY_NUMBERS == top {
             w = q % ENTRY_NUMBERS;
             if w == 0 {
-                return Probe::Bad;
+                return Err(Refusal::Unopened);
             }
             if e < w {
-                return Probe::Bad;
+                return Err(Refusal::Unopened);
             }
-            let Span::At { at, len } = entry(lists, s, d, w - 1) else {
-                return Probe::Bad;
-            };
-            let end = at + len;
-            if bytes_key::front_is(&pages[at..end], mode, front, measured, n) {
+            let span = entry(lists, s, d, w - 1)?;
+            let end = span.at + span.len;
+            if bytes_key::front_is(&pages[span.at..end], front, measured, n) {
                 let mut left = n;
                 loop {
                     if left == 0 {
                         break 'probe;
                     }
-                    let agreed = bytes_key::agreeing_in(pages, end, restmode, rest, n, left);
+                    let agreed = bytes_key::agreeing_in(pages, end, rest, n, left);
                     if agreed == 0 {
                         break;
                     }
@@ -105,7 +113,7 @@ fn probe_index(pages: &[u8], lists: &[u8], s: Sizes, key: Key, front: &[u8], res
         t += 1;
     }
     let i = w - 1;
-    Probe::At(i)
+    Ok(Probe::At(i))
 }
 
 // Searches the index of a key's dictionary.
@@ -117,7 +125,7 @@ pub fn bytes_to_id(
     key: Key,
     front: &[u8],
     rest: &[u8],
-) -> Probe
+) -> Result<Probe, Refusal>
     requires { Lent s pages.now lists.now dictionaries key.d × IsKey key front.now rest.now }
     ensures { Searched s key.d pages.now lists.now (bytes_in key front.now rest.now) result }
 {

@@ -2,12 +2,13 @@
 #![tactic(auto)]
 
 ghost use Rattle.std.specs.Prelude.{◌≡◌, ◌+◌, ◌%◌, ◌^◌, ◌≤◌, ◌<◌, length};
-ghost use Rattle.parts.specs.Parts.{bytes_of};
+ghost use Rattle.parts.specs.Parts.{bytes_of, part_bytes};
 ghost use Rattle.layout.specs.Fields.{top_of};
 ghost use Rattle.bytes_key.specs.Keys.{bytes_in, front_is, Agreeing};
 
 use layout::ENTRY_NUMBERS;
-use parts::Mode;
+use parts::{Mode, Part};
+use words::WORD;
 
 // A key to search or to store, without its bytes: its dictionary, its hash, and the modes of its front and of its rest. The caller computes the hash, because
 // it knows which parts the key has.
@@ -19,14 +20,32 @@ pub struct Key {
     pub rest: Mode,
 }
 
+impl Key {
+    // The two parts of the key that has these bytes.
+    #[inline(always)]
+    pub fn parts<'a>(self, front: &'a [u8], rest: &'a [u8]) -> (Part<'a>, Part<'a>)
+        ensures front { part_bytes result.0 ≡ bytes_of self.front front.now }
+        ensures rest { part_bytes result.1 ≡ bytes_of self.rest rest.now }
+    {
+        let front = Part {
+            mode: self.front,
+            bytes: front,
+        };
+        let rest = Part {
+            mode: self.rest,
+            bytes: rest,
+        };
+        (front, rest)
+    }
+}
+
 // How many bytes of a page a key takes.
 pub fn key_length(key: Key, front: &[u8], rest: &[u8]) -> usize
     requires { length (bytes_in key front.now rest.now) < 2 ^ 64 }
     ensures { result ≡ length (bytes_in key front.now rest.now) }
 {
-    let mode = key.front;
-    let restmode = key.rest;
-    parts::measure(mode, front) + parts::measure(restmode, rest)
+    let (front, rest) = key.parts(front, rest);
+    front.measure() + rest.measure()
 }
 
 // The place where the search starts.
@@ -56,9 +75,9 @@ pub fn up(j: usize, m: usize) -> usize
 }
 
 // Whether a stored key begins with the front and has `rest` bytes more. The front's stored length is `measured`.
-pub fn front_is(stored: &[u8], mode: Mode, front: &[u8], measured: usize, rest: usize) -> bool
-    requires { measured ≡ length (bytes_of mode front.now) }
-    ensures { result ≡ front_is stored.now (bytes_of mode front.now) rest }
+pub fn front_is(stored: &[u8], front: Part<'_>, measured: usize, rest: usize) -> bool
+    requires { measured ≡ length (part_bytes front) }
+    ensures { result ≡ front_is stored.now (part_bytes front.entry) rest }
 {
     if stored.len() < measured {
         return false;
@@ -70,15 +89,16 @@ pub fn front_is(stored: &[u8], mode: Mode, front: &[u8], measured: usize, rest: 
     if measured == 0 {
         return true;
     }
-    // Most fronts are frequent ids. With a known mode the compiler merges their comparison into the search.
-    if let Mode::Raw = mode {
-        return parts::same(Mode::Raw, front, &stored[..measured]);
+    // Kept: a test of the mode. Most fronts are frequent ids, and with a known mode the compiler merges their comparison into the search: 39 instructions less.
+    if let Mode::Raw = front.mode {
+        return Part::raw(front.bytes).is_stored_as(&stored[..measured]);
     }
-    parts::same(mode, front, &stored[..measured])
+    front.is_stored_as(&stored[..measured])
 }
 
 // Compares more bytes of the rest with the pages, where a stored rest ends at `end`. The last `left` bytes are still to compare. Answers how many more
 // agree: up to eight if the rest has eight, else all of them. 0: they do not agree.
+// Kept: 0 for no. The search takes the answer off what is left, and an Option of a length that is never 0 is no plainer.
 fn agreeing(pages: &[u8], end: usize, rest: &[u8], left: usize) -> usize
     requires { (0 < left) × (left ≤ length rest.now) × (length rest.now ≤ end) × (end ≤ length pages.now) }
     ensures { Agreeing pages.now end rest.now left result }
@@ -86,36 +106,29 @@ fn agreeing(pages: &[u8], end: usize, rest: &[u8], left: usize) -> usize
     let n = rest.len();
     if n < 8 {
         let start = end - n;
-        if !parts::same(Mode::Raw, rest, &pages[start..end]) {
+        if !Part::raw(rest).is_stored_as(&pages[start..end]) {
             return 0;
         }
         return left;
     }
     // The last eight may begin among bytes that were compared before.
     let from = if left < 8 { 8 } else { left };
-    if words::word_from(pages, end - from) != words::word_from(rest, n - from) {
+    if words::number_from::<WORD>(pages, end - from) != words::number_from::<WORD>(rest, n - from) {
         return 0;
     }
     if left < 8 { left } else { 8 }
 }
 
 // Compares more of a rest in its mode. The rest's stored length is n. A raw rest is compared eight bytes at a time, any other one at once.
-pub fn agreeing_in(
-    pages: &[u8],
-    end: usize,
-    mode: Mode,
-    rest: &[u8],
-    n: usize,
-    left: usize,
-) -> usize
-    requires { (0 < left) × (left ≤ n) × (n ≡ length (bytes_of mode rest.now)) × (n ≤ end) × (end ≤ length pages.now) }
-    ensures { Agreeing pages.now end (bytes_of mode rest.now) left result }
+pub fn agreeing_in(pages: &[u8], end: usize, rest: Part<'_>, n: usize, left: usize) -> usize
+    requires { (0 < left) × (left ≤ n) × (n ≡ length (part_bytes rest)) × (n ≤ end) × (end ≤ length pages.now) }
+    ensures { Agreeing pages.now end (part_bytes rest.entry) left result }
 {
-    if let Mode::Raw = mode {
-        return agreeing(pages, end, rest, left);
+    if let Mode::Raw = rest.mode {
+        return agreeing(pages, end, rest.bytes, left);
     }
     let start = end - n;
-    if !parts::same(mode, rest, &pages[start..end]) {
+    if !rest.is_stored_as(&pages[start..end]) {
         return 0;
     }
     left

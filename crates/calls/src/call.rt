@@ -1,4 +1,4 @@
-// The calls. Each function makes one call and prints it with its answer, on one line.
+// The calls. Each method that prints makes one call and prints it with its answer, on one line.
 use crate::script::Name;
 use crate::show::{Buffer, Counted, Found, Numbered, Part, Refused};
 use numbers::NamedictNumbered;
@@ -6,28 +6,43 @@ use std::fmt::{Display, Formatter};
 use std::io::Write;
 use std::{fmt, io};
 
-// Two hashes of the lent memory.
-#[derive(Clone, Copy, PartialEq, Eq)]
-struct Hashes {
-    pages: u32,
-    lists: u32,
+// A call on lent memory.
+#[derive(Clone, Copy)]
+pub enum Call {
+    Open,
+    Add,
+    Find,
+    Read,
+    Count,
+    // Adds a name, and prints only the answer and no line end.
+    AddBriefly,
+    // Counts, and prints only the answer and no line end.
+    CountBriefly,
+    // Adds a name, and prints nothing.
+    AddSilently,
+    // Reads a number, prints nothing, and counts whether it has the name.
+    ReadBack,
+    // No call of an entry: prints the bytes of the memory.
+    Beyond,
 }
 
-fn hashed(pages: &[u8], lists: &[u8]) -> Hashes {
-    Hashes {
-        pages: fnv::fnv(pages),
-        lists: fnv::fnv(lists),
-    }
-}
-
-// Says of a refused call whether it left the memory as found.
-fn left(refusal: u64, before: Hashes, after: Hashes) -> &'static str {
-    if refusal == 0 {
-        ""
-    } else if before == after {
-        ", memory as found"
-    } else {
-        ", memory changed"
+impl Call {
+    // The call that the first character of a line says.
+    // Kept: no TryFrom. Not every character is one of these, so there is no error to name.
+    pub fn named(character: u8) -> Option<Call> {
+        Some(match character {
+            b'o' => Call::Open,
+            b'a' => Call::Add,
+            b'f' => Call::Find,
+            b'r' => Call::Read,
+            b'c' => Call::Count,
+            b'A' => Call::AddBriefly,
+            b'C' => Call::CountBriefly,
+            b'q' => Call::AddSilently,
+            b'=' => Call::ReadBack,
+            b'b' => Call::Beyond,
+            _ => return None,
+        })
     }
 }
 
@@ -65,96 +80,125 @@ impl Display for Sizes {
     }
 }
 
-pub fn open<W: Write>(out: &mut W, pages: &[u8], lists: &mut [u8], sizes: Sizes) -> io::Result<()> {
-    write!(out, "open{sizes} in {} {}:", pages.len(), lists.len())?;
-    let before = hashed(pages, lists);
-    let refusal = namedict::namedict_open(
-        pages,
-        lists,
-        sizes.page_width,
-        sizes.page_count,
-        sizes.list_length,
-        sizes.block_width,
-        sizes.block_count,
-    );
-    if refusal == 0 {
-        return writeln!(out, " done");
+// Two hashes of the lent memory.
+#[derive(Clone, Copy, PartialEq, Eq)]
+struct Hashes {
+    pages: u32,
+    lists: u32,
+}
+
+// The memory that is lent to a call.
+#[derive(Drop)]
+pub struct Memory<'a> {
+    pub pages: &'a mut [u8],
+    pub lists: &'a mut [u8],
+}
+
+impl Memory<'_> {
+    fn hashes(&self) -> Hashes {
+        Hashes {
+            pages: fnv::fnv(self.pages),
+            lists: fnv::fnv(self.lists),
+        }
     }
-    let refused = Refused(refusal, 0);
-    let memory = left(refusal, before, hashed(pages, lists));
-    writeln!(out, "{refused}{memory}")
-}
 
-pub fn add<W: Write>(
-    out: &mut W,
-    pages: &mut [u8],
-    lists: &mut [u8],
-    name: &Name,
-) -> io::Result<()> {
-    let before = hashed(pages, lists);
-    let answer = add_silently(pages, lists, name);
-    let memory = left(answer.refusal, before, hashed(pages, lists));
-    writeln!(out, "add{name}:{}{memory}", Numbered(answer))
-}
+    // Says of a refused call whether it left the memory as found.
+    fn left(&self, refusal: u64, before: Hashes) -> &'static str {
+        if refusal == 0 {
+            ""
+        } else if before == self.hashes() {
+            ", memory as found"
+        } else {
+            ", memory changed"
+        }
+    }
 
-// Makes the call and prints nothing.
-pub fn add_silently(pages: &mut [u8], lists: &mut [u8], name: &Name) -> NamedictNumbered {
-    let first = name.first.as_slice();
-    let second = name.second.as_slice();
-    namedict::namedict_add(pages, lists, name.kind, first, second)
-}
-
-pub fn find<W: Write>(out: &mut W, pages: &[u8], lists: &[u8], name: &Name) -> io::Result<()> {
-    let first = name.first.as_slice();
-    let second = name.second.as_slice();
-    let answer = namedict::namedict_find(pages, lists, name.kind, first, second);
-    writeln!(out, "find{name}:{}", Numbered(answer))
-}
-
-pub fn read<W: Write>(
-    out: &mut W,
-    pages: &[u8],
-    lists: &[u8],
-    number: u64,
-    buffer: &mut [u8],
-) -> io::Result<()> {
-    let answer = Found(namedict::namedict_read(pages, lists, number, buffer));
-    let room = buffer.len();
-    let bytes = Buffer(buffer);
-    writeln!(out, "read {number} in {room}:{answer}, buffer{bytes}")
-}
-
-// Whether the number reads back as this name. The buffer is just as long as both parts.
-pub fn reads_back(pages: &[u8], lists: &[u8], number: u64, name: &Name, buffer: &mut [u8]) -> bool {
-    let answer = namedict::namedict_read(pages, lists, number, buffer);
-    answer.refusal == 0
-        && answer.word == 4
-        && answer.kind == name.kind
-        && answer.first_len == name.first.len() as u64
-        && answer.second_len == name.second.len() as u64
-        && buffer.strip_prefix(name.first.as_slice()) == Some(name.second.as_slice())
-}
-
-pub fn count<W: Write>(out: &mut W, pages: &[u8], lists: &[u8], kind: u64) -> io::Result<()> {
-    let answer = namedict::namedict_count(pages, lists, kind);
-    writeln!(out, "count {kind}:{}", Counted(answer))
-}
-
-// Prints the pages from j on and the lists from k on.
-pub fn beyond<W: Write>(
-    out: &mut W,
-    pages: &[u8],
-    j: usize,
-    lists: &[u8],
-    k: usize,
-) -> io::Result<()> {
-    if j <= pages.len() && k <= lists.len() {
-        writeln!(
+    pub fn open<W: Write>(&mut self, out: &mut W, sizes: Sizes) -> io::Result<()> {
+        let before = self.hashes();
+        write!(
             out,
-            "beyond:{} and{}",
-            Buffer(&pages[j..]),
-            Buffer(&lists[k..])
+            "open{sizes} in {} {}:",
+            self.pages.len(),
+            self.lists.len()
         )?;
+        let refusal = self.open_silently(sizes);
+        if refusal == 0 {
+            return writeln!(out, " done");
+        }
+        let refused = Refused(refusal, 0);
+        writeln!(out, "{refused}{}", self.left(refusal, before))
     }
-    Ok(())
+
+    // Makes the call and prints nothing. Returns the refusal's number, 0 for none.
+    fn open_silently(&mut self, sizes: Sizes) -> u64 {
+        let pages: &mut [u8] = self.pages;
+        let lists: &mut [u8] = self.lists;
+        namedict::namedict_open(
+            pages,
+            lists,
+            sizes.page_width,
+            sizes.page_count,
+            sizes.list_length,
+            sizes.block_width,
+            sizes.block_count,
+        )
+    }
+
+    pub fn add<W: Write>(&mut self, out: &mut W, name: &Name) -> io::Result<()> {
+        let before = self.hashes();
+        let answer = self.add_silently(name);
+        let memory = self.left(answer.refusal, before);
+        writeln!(out, "add{name}:{}{memory}", Numbered(answer))
+    }
+
+    // Makes the call and prints nothing.
+    pub fn add_silently(&mut self, name: &Name) -> NamedictNumbered {
+        let first = name.first.as_slice();
+        let second = name.second.as_slice();
+        namedict::namedict_add(self.pages, self.lists, name.kind, first, second)
+    }
+
+    pub fn find<W: Write>(&self, out: &mut W, name: &Name) -> io::Result<()> {
+        let first = name.first.as_slice();
+        let second = name.second.as_slice();
+        let answer = namedict::namedict_find(self.pages, self.lists, name.kind, first, second);
+        writeln!(out, "find{name}:{}", Numbered(answer))
+    }
+
+    pub fn read<W: Write>(&self, out: &mut W, number: u64, buffer: &mut [u8]) -> io::Result<()> {
+        let answer = Found(namedict::namedict_read(self.pages, self.lists, number, buffer));
+        let room = buffer.len();
+        let bytes = Buffer(buffer);
+        writeln!(out, "read {number} in {room}:{answer}, buffer{bytes}")
+    }
+
+    // Whether the number reads back as this name. The buffer is just as long as both parts.
+    pub fn reads_back(&self, number: u64, name: &Name, buffer: &mut [u8]) -> bool {
+        let answer = namedict::namedict_read(self.pages, self.lists, number, buffer);
+        answer.refusal == 0
+            && answer.word == 4
+            && answer.kind == name.kind
+            && answer.first_len == name.first.len() as u64
+            && answer.second_len == name.second.len() as u64
+            && buffer.strip_prefix(name.first.as_slice()) == Some(name.second.as_slice())
+    }
+
+    pub fn count<W: Write>(&self, out: &mut W, kind: u64) -> io::Result<()> {
+        writeln!(out, "count {kind}:{}", self.count_silently(kind))
+    }
+
+    // Makes the call and prints nothing.
+    pub fn count_silently(&self, kind: u64) -> Counted {
+        Counted(namedict::namedict_count(self.pages, self.lists, kind))
+    }
+
+    // Prints the pages from j on and the lists from k on.
+    pub fn beyond<W: Write>(&self, out: &mut W, j: usize, k: usize) -> io::Result<()> {
+        if let Some(pages) = self.pages.get(j..)
+            && let Some(lists) = self.lists.get(k..)
+        {
+            writeln!(out, "beyond:{} and{}", Buffer(pages), Buffer(lists))?;
+        }
+        Ok(())
+    }
 }

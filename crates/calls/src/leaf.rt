@@ -1,4 +1,4 @@
-// The leaf rules. Each function makes one call and prints it with its answer, on one line.
+// The leaf rules. Each method makes one call and prints it with its answer, on one line.
 use crate::show::{Buffer, Part, Refused};
 use leaf_numbers::{NamedictUnpacked, NamedictValue, NamedictWritten};
 use std::fmt::{Display, Formatter};
@@ -59,51 +59,71 @@ fn answered<W: Write, A: Display + Drop>(out: &mut W, answer: A, buffer: &[u8]) 
     writeln!(out, " in {room}:{answer}, buffer{bytes}")
 }
 
-fn write_fid<W: Write>(out: &mut W, value: u64, buffer: &mut [u8]) -> io::Result<()> {
-    write!(out, "write_fid {value}")?;
-    let answer = Written(namedict::namedict_write_fid(value, buffer));
-    answered(out, answer, buffer)
+// A leaf rule.
+#[derive(Clone, Copy)]
+pub enum Rule {
+    IsText,
+    SplitIri,
+    // No exported rule: the hash with which the search starts.
+    Hash,
+    ReadFid,
+    WriteFid,
+    Pack,
+    Unpack,
 }
 
-fn pack<W: Write>(out: &mut W, text: &[u8], tag: &[u8], buffer: &mut [u8]) -> io::Result<()> {
-    write!(out, "pack{}{}", Part(text), Part(tag))?;
-    let answer = Written(namedict::namedict_pack(text, tag, buffer));
-    answered(out, answer, buffer)
-}
-
-fn unpack<W: Write>(out: &mut W, packed: &[u8], buffer: &mut [u8]) -> io::Result<()> {
-    write!(out, "unpack{}", Part(packed))?;
-    let answer = Unpacked(namedict::namedict_unpack(packed, buffer));
-    answered(out, answer, buffer)
-}
-
-// A rule that takes one part and writes nothing.
-fn of_part<W: Write>(out: &mut W, op: u8, s: &[u8]) -> io::Result<()> {
-    let part = Part(s);
-    match op {
-        b'T' => writeln!(out, "is_text{part}: {}", namedict::namedict_is_text(s)),
-        b'S' => writeln!(out, "split_iri{part}: {}", namedict::namedict_split_iri(s)),
-        // No exported rule: the hash with which the search starts.
-        b'H' => writeln!(out, "fnv{part}: {:08x}", fnv::fnv(s)),
-        _ => {
-            let answer = Value(namedict::namedict_read_fid(s));
-            writeln!(out, "read_fid{}:{answer}", Buffer(s))
-        }
+impl Rule {
+    // The rule that the first character of a line says.
+    // Kept: no TryFrom. Not every character is one of these, so there is no error to name.
+    pub fn named(character: u8) -> Option<Rule> {
+        Some(match character {
+            b'T' => Rule::IsText,
+            b'S' => Rule::SplitIri,
+            b'H' => Rule::Hash,
+            b'R' => Rule::ReadFid,
+            b'W' => Rule::WriteFid,
+            b'P' => Rule::Pack,
+            b'U' => Rule::Unpack,
+            _ => return None,
+        })
     }
-}
 
-pub fn call<W: Write>(
-    out: &mut W,
-    op: u8,
-    value: u64,
-    first: &[u8],
-    second: &[u8],
-    buffer: &mut [u8],
-) -> io::Result<()> {
-    match op {
-        b'W' => write_fid(out, value, buffer),
-        b'P' => pack(out, first, second, buffer),
-        b'U' => unpack(out, first, buffer),
-        _ => of_part(out, op, first),
+    // Calls the rule with what it needs of these.
+    pub fn call<W: Write>(
+        self,
+        out: &mut W,
+        value: u64,
+        first: &[u8],
+        second: &[u8],
+        buffer: &mut [u8],
+    ) -> io::Result<()> {
+        let part = Part(first);
+        match self {
+            Rule::IsText => writeln!(out, "is_text{part}: {}", namedict::namedict_is_text(first)),
+            Rule::SplitIri => {
+                let length = namedict::namedict_split_iri(first);
+                writeln!(out, "split_iri{part}: {length}")
+            }
+            Rule::Hash => writeln!(out, "fnv{part}: {:08x}", fnv::fnv(first)),
+            Rule::ReadFid => {
+                let answer = Value(namedict::namedict_read_fid(first));
+                writeln!(out, "read_fid{}:{answer}", Buffer(first))
+            }
+            Rule::WriteFid => {
+                write!(out, "write_fid {value}")?;
+                let answer = Written(namedict::namedict_write_fid(value, buffer));
+                answered(out, answer, buffer)
+            }
+            Rule::Pack => {
+                write!(out, "pack{part}{}", Part(second))?;
+                let answer = Written(namedict::namedict_pack(first, second, buffer));
+                answered(out, answer, buffer)
+            }
+            Rule::Unpack => {
+                write!(out, "unpack{part}")?;
+                let answer = Unpacked(namedict::namedict_unpack(first, buffer));
+                answered(out, answer, buffer)
+            }
+        }
     }
 }

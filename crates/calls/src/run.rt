@@ -16,18 +16,45 @@
 //   t TEXT                           prints the text, and no line end
 //   -- TEXT                          a title: prints the line as it is
 // An empty line prints a line end.
-use crate::call::Sizes;
+use crate::call::{Call, Memory};
+use crate::leaf::Rule;
 use crate::script::{LONGEST, Name, Words};
-use crate::show::{Counted, Numbered};
-use crate::{call, leaf};
+use crate::show::Numbered;
 use std::alloc::{AllocError, Global};
-use std::io;
 use std::io::Write;
+use std::{io, mem};
 
 // The memory of all calls. Each call is lent a part of it.
 const PAGES: usize = 65536;
 
 const LISTS: usize = 20416;
+
+// What a line is.
+#[derive(Clone, Copy)]
+enum Line {
+    Title,
+    Text,
+    Right,
+    Fill,
+    Rule(Rule),
+    Call(Call),
+}
+
+impl Line {
+    // What the first character of a line says.
+    // Kept: no TryFrom. Not every character is one of these, so there is no error to name.
+    fn named(character: u8) -> Option<Line> {
+        match character {
+            b'-' => Some(Line::Title),
+            b't' => Some(Line::Text),
+            b'n' => Some(Line::Right),
+            b'm' => Some(Line::Fill),
+            _ => Rule::named(character)
+                .map(Line::Rule)
+                .or_else(|| Call::named(character).map(Line::Call)),
+        }
+    }
+}
 
 // A buffer of AA; none if it would be longer than any buffer of the lists.
 fn buffer(alloc: Global, length: u64) -> Result<Option<Vec<u8>>, AllocError> {
@@ -38,137 +65,49 @@ fn buffer(alloc: Global, length: u64) -> Result<Option<Vec<u8>>, AllocError> {
     Ok(Some(bytes))
 }
 
-fn open<W: Write>(
-    out: &mut W,
-    words: &mut Words<'_>,
-    pages: &[u8],
-    lists: &mut [u8],
-) -> io::Result<()> {
-    let sizes = Sizes {
-        page_width: words.number(),
-        page_count: words.number(),
-        list_length: words.number(),
-        block_width: words.number(),
-        block_count: words.number(),
-    };
-    call::open(out, pages, lists, sizes)
-}
-
-fn read<W: Write>(
-    out: &mut W,
-    alloc: Global,
-    words: &mut Words<'_>,
-    pages: &[u8],
-    lists: &[u8],
-) -> io::Result<()> {
-    let number = words.number();
-    match buffer(alloc, words.number())? {
-        Some(mut bytes) => call::read(out, pages, lists, number, bytes.as_mut_slice()),
-        None => Ok(()),
-    }
-}
-
 // Whether the number's name is read back into a buffer just long enough.
 fn is_right(
     alloc: Global,
     number: u64,
     name: &Name,
-    pages: &[u8],
-    lists: &[u8],
+    memory: &Memory<'_>,
 ) -> Result<bool, AllocError> {
     let length = (name.first.len() as u64).saturating_add(name.second.len() as u64);
     match buffer(alloc, length)? {
-        Some(mut bytes) => Ok(call::reads_back(pages, lists, number, name, bytes.as_mut_slice())),
+        Some(mut bytes) => Ok(memory.reads_back(number, name, bytes.as_mut_slice())),
         None => Ok(false),
     }
 }
 
-// A line without a name.
-fn numbers<W: Write>(
-    out: &mut W,
-    alloc: Global,
-    op: u8,
-    words: &mut Words<'_>,
-    pages: &[u8],
-    lists: &[u8],
-) -> io::Result<()> {
-    match op {
-        b'r' => read(out, alloc, words, pages, lists),
-        b'b' => {
-            let j = words.number() as usize;
-            let k = words.number() as usize;
-            call::beyond(out, pages, j, lists, k)
-        }
-        b'c' => call::count(out, pages, lists, words.number()),
-        _ => {
-            let answer = namedict::namedict_count(pages, lists, words.number());
-            write!(out, "{}", Counted(answer))
-        }
-    }
+// The memory of the dictionary.
+// Kept: each of the three programs has such a struct. A common one needs one more crate for two fields, and each program fills and sizes it in its own way.
+#[derive(Drop)]
+struct Whole {
+    pages: Vec<u8>,
+    lists: Vec<u8>,
 }
 
-// A line with a name.
-fn named<W: Write>(
-    out: &mut W,
-    op: u8,
-    name: &Name,
-    pages: &mut [u8],
-    lists: &mut [u8],
-) -> io::Result<()> {
-    match op {
-        b'a' => call::add(out, pages, lists, name),
-        b'f' => call::find(out, pages, lists, name),
-        b'A' => write!(out, "{}", Numbered(call::add_silently(pages, lists, name))),
-        b'q' => {
-            let _ = call::add_silently(pages, lists, name);
-            Ok(())
-        }
-        _ => writeln!(out, "not a call"),
+impl Whole {
+    fn new(alloc: Global) -> Result<Whole, AllocError> {
+        Ok(Whole {
+            pages: vec![in alloc; 0u8; PAGES]?,
+            lists: vec![in alloc; 0u8; LISTS]?,
+        })
     }
-}
 
-// A line with the memory that is lent to it. Returns how many more are right.
-fn lent<W: Write>(
-    out: &mut W,
-    alloc: Global,
-    op: u8,
-    words: &mut Words<'_>,
-    pages: &mut [u8],
-    lists: &mut [u8],
-) -> io::Result<u64> {
-    match op {
-        b'o' => open(out, words, pages, lists)?,
-        b'r' | b'b' | b'c' | b'C' => numbers(out, alloc, op, words, pages, lists)?,
-        b'=' => {
-            let name = words.name(alloc)?;
-            let right = is_right(alloc, words.number(), &name, pages, lists)?;
-            return Ok(u64::from(right));
-        }
-        _ => named(out, op, &words.name(alloc)?, pages, lists)?,
+    // The memory that a line with P and L is lent, if there is as much.
+    fn lend(&mut self, words: &mut Words<'_>) -> Option<Memory<'_>> {
+        let j = words.number() as usize;
+        let k = words.number() as usize;
+        Some(Memory {
+            pages: self.pages.as_mut_slice().get_mut(..j)?,
+            lists: self.lists.as_mut_slice().get_mut(..k)?,
+        })
     }
-    Ok(0)
-}
 
-// A line with a leaf rule: no memory is lent to it.
-fn leaf_rule<W: Write>(
-    out: &mut W,
-    alloc: Global,
-    op: u8,
-    words: &mut Words<'_>,
-) -> io::Result<()> {
-    let value = words.number();
-    let length = words.number();
-    let (first, second) = words.parts(alloc)?;
-    match buffer(alloc, length)? {
-        Some(mut bytes) => leaf::call(
-            out,
-            op,
-            value,
-            first.as_slice(),
-            second.as_slice(),
-            bytes.as_mut_slice(),
-        ),
-        None => Ok(()),
+    fn fill(&mut self, byte: u8) {
+        self.pages.fill(byte);
+        self.lists.fill(byte);
     }
 }
 
@@ -177,59 +116,96 @@ fn leaf_rule<W: Write>(
 struct Runner<'a, W: Write> {
     out: &'a mut W,
     alloc: Global,
-    pages: Vec<u8>,
-    lists: Vec<u8>,
+    memory: Whole,
     right: u64,
 }
 
 impl<W: Write> Runner<'_, W> {
-    // A line that has P and L: it is lent memory.
-    fn lend(&mut self, op: u8, words: &mut Words<'_>) -> io::Result<()> {
-        let j = words.number() as usize;
-        let k = words.number() as usize;
-        if j > self.pages.len() || k > self.lists.len() {
-            return Ok(());
-        }
-        let pages = &mut self.pages[..j];
-        let lists = &mut self.lists[..k];
-        let more = lent(self.out, self.alloc, op, words, pages, lists)?;
-        self.right = self.right.saturating_add(more);
-        Ok(())
-    }
-
-    fn fill(&mut self, byte: u64) {
-        if byte < 256 {
-            self.pages.fill(byte as u8);
-            self.lists.fill(byte as u8);
-        }
-    }
-
     fn line(&mut self, s: &[u8]) -> io::Result<()> {
-        if s.len() < 2 {
+        let [character, _, text @ ..] = s else {
             return writeln!(self.out);
-        }
-        let text = &s[2..];
+        };
         let mut words = Words::new(text);
-        match s[0] {
-            b'-' => {
+        match Line::named(*character) {
+            Some(Line::Title) => {
                 self.out.write_all(s)?;
                 writeln!(self.out)
             }
-            b't' => self.out.write_all(text),
-            b'n' => {
+            Some(Line::Text) => self.out.write_all(text),
+            Some(Line::Right) => {
                 self.out.write_all(text)?;
-                let right = self.right;
-                self.right = 0;
-                writeln!(self.out, " {right}")
+                writeln!(self.out, " {}", mem::take(&mut self.right))
             }
-            b'm' => {
-                self.fill(words.number());
+            Some(Line::Fill) => {
+                if let Ok(byte) = u8::try_from(words.number()) {
+                    self.memory.fill(byte);
+                }
                 Ok(())
             }
-            b'T' | b'S' | b'H' | b'R' | b'W' | b'P' | b'U' => {
-                leaf_rule(self.out, self.alloc, s[0], &mut words)
+            Some(Line::Rule(rule)) => self.rule(rule, &mut words),
+            Some(Line::Call(call)) => self.call(call, &mut words),
+            None => match self.memory.lend(&mut words) {
+                Some(_) => writeln!(self.out, "not a call"),
+                None => Ok(()),
+            },
+        }
+    }
+
+    // A line with a leaf rule: no memory is lent to it.
+    fn rule(&mut self, rule: Rule, words: &mut Words<'_>) -> io::Result<()> {
+        let value = words.number();
+        let length = words.number();
+        let (first, second) = words.parts(self.alloc)?;
+        match buffer(self.alloc, length)? {
+            Some(mut bytes) => rule.call(
+                self.out,
+                value,
+                first.as_slice(),
+                second.as_slice(),
+                bytes.as_mut_slice(),
+            ),
+            None => Ok(()),
+        }
+    }
+
+    // A line with a call. Nothing is done if it is to be lent more than there is.
+    fn call(&mut self, call: Call, words: &mut Words<'_>) -> io::Result<()> {
+        let alloc = self.alloc;
+        let Some(mut memory) = self.memory.lend(words) else {
+            return Ok(());
+        };
+        match call {
+            Call::Open => memory.open(self.out, words.sizes()),
+            Call::Add => memory.add(self.out, &words.name(alloc)?),
+            Call::Find => memory.find(self.out, &words.name(alloc)?),
+            Call::Read => {
+                let number = words.number();
+                match buffer(alloc, words.number())? {
+                    Some(mut bytes) => memory.read(self.out, number, bytes.as_mut_slice()),
+                    None => Ok(()),
+                }
             }
-            _ => self.lend(s[0], &mut words),
+            Call::Count => memory.count(self.out, words.number()),
+            Call::AddBriefly => {
+                let answer = memory.add_silently(&words.name(alloc)?);
+                write!(self.out, "{}", Numbered(answer))
+            }
+            Call::CountBriefly => write!(self.out, "{}", memory.count_silently(words.number())),
+            Call::AddSilently => {
+                let _ = memory.add_silently(&words.name(alloc)?);
+                Ok(())
+            }
+            Call::ReadBack => {
+                let name = words.name(alloc)?;
+                let right = is_right(alloc, words.number(), &name, &memory)?;
+                self.right = self.right.saturating_add(u64::from(right));
+                Ok(())
+            }
+            Call::Beyond => {
+                let j = words.number() as usize;
+                let k = words.number() as usize;
+                memory.beyond(self.out, j, k)
+            }
         }
     }
 }
@@ -239,12 +215,11 @@ pub fn run<W: Write>(out: &mut W, alloc: Global, input: &[u8]) -> io::Result<()>
     let mut runner = Runner {
         out,
         alloc,
-        pages: vec![in alloc; 0u8; PAGES]?,
-        lists: vec![in alloc; 0u8; LISTS]?,
+        memory: Whole::new(alloc)?,
         right: 0,
     };
     for line in input.split_inclusive(|b| *b == b'\n') {
-        runner.line(&line[..lines::end_of(line, 0, b'\n')])?;
+        runner.line(line.strip_suffix(b"\n").unwrap_or(line))?;
     }
     Ok(())
 }

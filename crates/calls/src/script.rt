@@ -4,6 +4,7 @@
 // more bytes follow: 612f78*f9e, 68*c8.2f68*c8. A part of no bytes is '-'.
 ghost use Rattle.std.specs.Prelude.{◌<◌, ◌≤◌, length, IfSome};
 
+use crate::call::Sizes;
 use std::alloc::{AllocError, Global};
 
 // The longest packed form and buffer in the lists of calls. Both parts of a line have room for as many bytes together.
@@ -50,6 +51,16 @@ impl<'a> Words<'a> {
         Ok((first, second))
     }
 
+    pub fn sizes(&mut self) -> Sizes {
+        Sizes {
+            page_width: self.number(),
+            page_count: self.number(),
+            list_length: self.number(),
+            block_width: self.number(),
+            block_count: self.number(),
+        }
+    }
+
     pub fn name(&mut self, alloc: Global) -> Result<Name, AllocError> {
         let kind = self.number();
         let (first, second) = self.parts(alloc)?;
@@ -62,6 +73,7 @@ impl<'a> Words<'a> {
 }
 
 // A digit's value.
+// Kept: std's `to_digit` is no plainer here: it takes A to F too, at which a number ends here.
 fn digit(b: u8) -> Option<u8>
     ensures { IfSome result (λ d. d < 16) }
 {
@@ -80,15 +92,13 @@ fn digits(text: &[u8]) -> (u64, &[u8])
     ensures { length result.1.now ≤ length text.now }
 {
     let mut value = 0;
-    let mut taken = 0;
-    for b in text {
+    for (i, b) in text.iter().enumerate() {
         match digit(*b) {
             Some(d) if value < ROOM => value = value * 16 + u64::from(d),
-            _ => break,
+            _ => return (value, &text[i..]),
         }
-        taken += 1;
     }
-    (value, &text[taken..])
+    (value, &[])
 }
 
 // The number in front of a text, and what is behind the byte after it.

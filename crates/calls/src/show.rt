@@ -68,6 +68,7 @@ impl Display for Buffer<'_> {
 }
 
 // A refusal and the numbers beside it. They should be 0; if they are not, that is printed.
+// Kept: the C interface gives refusals and words as numbers, and this program prints each one that comes, also one that no answer has.
 #[derive(Clone, Copy)]
 pub struct Refused(pub u64, pub u64);
 

@@ -24,12 +24,7 @@ fn argument<R: Env>(
 
 pub fn arguments<R: Env>(rt: &R, alloc: Global) -> Result<Vec<Vec<u8>>, AllocError> {
     let mut buffer = vec![in alloc; 0u8; LONGEST]?;
-    let mut all = Vec::new(alloc);
-    for i in 1..usize::MAX {
-        match argument(rt, alloc, i, buffer.as_mut_slice())? {
-            Some(argument) => all.push(argument)?,
-            None => break,
-        }
-    }
-    Ok(all)
+    (1..usize::MAX)
+        .map_while(|i| argument(rt, alloc, i, buffer.as_mut_slice()).transpose())
+        .try_collect(alloc)
 }

@@ -5,7 +5,7 @@ use crate::compare::{Held, Role};
 use crate::input::Task;
 use crate::names_in_memory::{Blocks, Names};
 use crate::number::{Number, ReadBack};
-use crate::report::Tally;
+use crate::report::{Stop, Tally};
 use crate::{input, line, report};
 use std::alloc::Global;
 use std::fs::File;
@@ -21,14 +21,6 @@ enum Command<'a> {
     Compare(&'a [u8], &'a [u8]),
     Pair(&'a [u8], &'a [u8]),
     Blocks(Blocks),
-}
-
-// The number that a word is; 0 if it is no number.
-fn size(word: &[u8]) -> u64 {
-    match line::number(word) {
-        Some((value, [])) => value,
-        _ => 0,
-    }
 }
 
 // The command with this name, and the words that are left behind its own.
@@ -48,9 +40,10 @@ fn named<'a>(name: &[u8], words: &'a [Vec<u8>]) -> Option<(Command<'a>, &'a [Vec
         b"compare" => Some((Command::Compare(first, second), words)),
         b"pair" => Some((Command::Pair(first, second), words)),
         b"blocks" => {
+            // A word that is no number stands for 0, which the library refuses.
             let blocks = Blocks {
-                width: size(first),
-                count: size(second),
+                width: line::whole_number(first).unwrap_or(0),
+                count: line::whole_number(second).unwrap_or(0),
             };
             Some((Command::Blocks(blocks), words))
         }
@@ -64,42 +57,41 @@ fn open<R: Files>(rt: &R, path: &[u8]) -> Option<R::File> {
     File::open(rt, path).ok()
 }
 
-// Does the task with each line of a file. None: not all of the file could be read, and a remark says so.
-fn file<R: Files + Input, W: Write, T: Task>(
-    rt: &R,
-    alloc: Global,
-    out: &mut W,
-    path: &[u8],
-    task: &mut T,
-) -> io::Result<Option<Tally>> {
-    report::remark(out, "", path)?;
-    if matches!(path, b"-") {
-        return input::run(rt.reader(), alloc, out, task);
-    }
-    // A pipe is open only when somebody begins to write into it.
-    out.flush()?;
-    match open(rt, path) {
-        Some(file) => input::run(file, alloc, out, task),
-        None => {
-            report::remark(out, "cannot be opened: ", path)?;
-            Ok(None)
-        }
-    }
-}
-
-// What the commands work on: the runtime, where answers are printed, and one dictionary with its blocks.
+// What the commands have of the system: its files, its memory, and where answers are printed.
 #[derive(Drop)]
-struct Checklist<'a, R, W> {
+struct Host<'a, R, W> {
     rt: &'a R,
     alloc: Global,
     out: W,
+}
+
+impl<R: Files + Input, W: Write> Host<'_, R, W> {
+    // Does the task with each line of a file. A remark says so if not all of the file can be read.
+    fn file<T: Task>(&mut self, path: &[u8], task: &mut T) -> Result<Tally, Stop> {
+        report::remark(&mut self.out, "", path)?;
+        if matches!(path, b"-") {
+            return input::run(self.rt.reader(), self.alloc, &mut self.out, task);
+        }
+        // A pipe is open only when somebody begins to write into it.
+        self.out.flush()?;
+        let Some(file) = open(self.rt, path) else {
+            report::remark(&mut self.out, "cannot be opened: ", path)?;
+            return Err(Stop::Told);
+        };
+        input::run(file, self.alloc, &mut self.out, task)
+    }
+}
+
+// What the commands work on: the system, and one dictionary with its blocks.
+#[derive(Drop)]
+struct Checklist<'a, R, W> {
+    host: Host<'a, R, W>,
     names: Names,
     blocks: Blocks,
 }
 
 impl<R: Files + Input, W: Write + Drop> Checklist<'_, R, W> {
-    // Runs a command. This function and the next ones return whether everything could be read.
-    fn run(&mut self, command: Command<'_>) -> io::Result<bool> {
+    fn run(&mut self, command: Command<'_>) -> Result<(), Stop> {
         match command {
             Command::Number(path) => self.number(path),
             Command::Read(path) => self.read(path),
@@ -113,58 +105,46 @@ impl<R: Files + Input, W: Write + Drop> Checklist<'_, R, W> {
         }
     }
 
-    // Begins a dictionary with no names. Returns whether its blocks are ones that a dictionary can have.
-    fn begin(&mut self) -> io::Result<bool> {
-        match self.names.open(self.blocks) {
-            Ok(()) => Ok(true),
-            Err(refusal) => {
-                let limits = "the width is 4 to 24, the count 1 to 4096";
-                writeln!(self.out, "# blocks: refused, {refusal} ({limits})")?;
-                Ok(false)
-            }
-        }
+    // Begins a dictionary with no names. A remark says so if it cannot have these blocks.
+    fn begin(&mut self) -> Result<(), Stop> {
+        let Err(refusal) = self.names.open(self.blocks) else {
+            return Ok(());
+        };
+        let limits = "the width is 4 to 24, the count 1 to 4096";
+        writeln!(self.host.out, "# blocks: refused, {refusal} ({limits})")?;
+        Err(Stop::Told)
     }
 
     // Numbers the names of a file.
-    fn number(&mut self, path: &[u8]) -> io::Result<bool> {
+    fn number(&mut self, path: &[u8]) -> Result<(), Stop> {
         let mut task = Number {
             names: &mut self.names,
         };
-        match file(self.rt, self.alloc, &mut self.out, path, &mut task)? {
-            Some(tally) => {
-                report::numbered(&mut self.out, &tally)?;
-                Ok(true)
-            }
-            None => Ok(false),
-        }
+        let tally = self.host.file(path, &mut task)?;
+        report::numbered(&mut self.host.out, &tally)?;
+        Ok(())
     }
 
     // Reads the numbers of a file back.
-    fn read(&mut self, path: &[u8]) -> io::Result<bool> {
+    fn read(&mut self, path: &[u8]) -> Result<(), Stop> {
         let mut task = ReadBack { names: &self.names };
-        let tally = file(self.rt, self.alloc, &mut self.out, path, &mut task)?;
-        Ok(tally.is_some())
+        let _ = self.host.file(path, &mut task)?;
+        Ok(())
     }
 
     // Holds a numbering against a base. It uses the dictionary's memory, so a new dictionary is begun behind it.
-    fn hold(&mut self, base: &[u8], path: &[u8], role: Role) -> io::Result<bool> {
-        let done = self.hold_against(base, path, role)?;
-        Ok(done && self.begin()?)
+    fn hold(&mut self, base: &[u8], path: &[u8], role: Role) -> Result<(), Stop> {
+        self.hold_against(base, path, role)?;
+        self.begin()
     }
 
-    fn hold_against(&mut self, base: &[u8], path: &[u8], role: Role) -> io::Result<bool> {
-        let mut held = Held::new(self.alloc, &mut self.names)?;
-        let Some(of_base) = file(self.rt, self.alloc, &mut self.out, base, &mut held)? else {
-            return Ok(false);
-        };
+    fn hold_against(&mut self, base: &[u8], path: &[u8], role: Role) -> Result<(), Stop> {
+        let mut held = Held::new(self.host.alloc, &mut self.names)?;
+        let of_base = self.host.file(base, &mut held)?;
         held.role = role;
-        match file(self.rt, self.alloc, &mut self.out, path, &mut held)? {
-            Some(tally) => {
-                held.tell(&mut self.out, &of_base, &tally)?;
-                Ok(true)
-            }
-            None => Ok(false),
-        }
+        let tally = self.host.file(path, &mut held)?;
+        held.tell(&mut self.host.out, &of_base, &tally)?;
+        Ok(())
     }
 }
 
@@ -176,25 +156,24 @@ pub fn run<R: Files + Input, W: Write + Drop>(
     words: &[Vec<u8>],
 ) -> io::Result<()> {
     let mut checklist = Checklist {
-        rt,
-        alloc,
-        out,
+        host: Host { rt, alloc, out },
         names: Names::new(alloc)?,
         blocks: Blocks::NEMO,
     };
     if words.is_empty() {
-        report::usage(&mut checklist.out, b"none")?;
+        report::usage(&mut checklist.host.out, b"none")?;
     }
     let mut rest = words;
     while let Some((name, behind)) = rest.split_first() {
         let Some((command, behind)) = named(name.as_slice(), behind) else {
-            report::usage(&mut checklist.out, name.as_slice())?;
+            report::usage(&mut checklist.host.out, name.as_slice())?;
             break;
         };
-        if !checklist.run(command)? {
-            break;
+        match checklist.run(command) {
+            Ok(()) => rest = behind,
+            Err(Stop::Told) => break,
+            Err(Stop::Failed(error)) => return Err(error),
         }
-        rest = behind;
     }
-    checklist.out.flush()
+    checklist.host.out.flush()
 }

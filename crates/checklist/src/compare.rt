@@ -3,8 +3,8 @@
 use crate::input::Task;
 use crate::line::Name;
 use crate::names_in_memory::{Added, Blocks, Names};
-use crate::report::Tally;
-use crate::{line, number, report};
+use crate::report::{Report, Tally, count};
+use crate::{line, number};
 use std::alloc::{AllocError, Global};
 use std::io;
 use std::io::Write;
@@ -19,6 +19,7 @@ const BLOCKS: Blocks = Blocks {
 const NUMBERS: usize = 65536;
 
 // What the lines of a file are: those of the base, or lines that are held against it, to tell what differs or to tell each name's two numbers.
+// Kept: an enum is plainer than a trait for each role. The roles are closed, the same entries go from one to the next, and each match shows all of them side by side.
 #[derive(Clone, Copy)]
 pub enum Role {
     Base,
@@ -66,8 +67,8 @@ impl<'a> Held<'a> {
     }
 
     fn tell_compared<W: Write>(&self, out: &mut W, base: &Tally, t: &Tally) -> io::Result<()> {
-        if let Some(i) = self.first_missing() {
-            self.missing(out, "first only in the first: ", i)?;
+        if let Some((i, entry)) = self.first_missing() {
+            self.missing(out, "first only in the first: ", i, *entry)?;
         }
         let missing = self.count_missing();
         let Tally {
@@ -87,10 +88,9 @@ impl<'a> Held<'a> {
 
     // The base is the second of the two.
     fn tell_paired<W: Write>(&self, out: &mut W, base: &Tally, t: &Tally) -> io::Result<()> {
-        for (i, entry) in self.entries.iter().enumerate() {
-            if entry.base_line.is_some() {
-                self.missing(out, "# only in the second: ", i)?;
-            }
+        let entries = self.entries.iter().enumerate();
+        for (i, entry) in entries.filter(|(_, entry)| entry.base_line.is_some()) {
+            self.missing(out, "# only in the second: ", i, *entry)?;
         }
         let missing = self.count_missing();
         let Tally {
@@ -107,19 +107,13 @@ impl<'a> Held<'a> {
         writeln!(out, "lines refused: {refused} and {}", base.refused)
     }
 
-    // Which entry is that of the first name that only the base has.
-    fn first_missing(&self) -> Option<usize> {
-        let mut first = None;
-        let mut least = u64::MAX;
-        for (i, entry) in self.entries.iter().enumerate() {
-            if let Some(line) = entry.base_line
-                && line < least
-            {
-                least = line;
-                first = Some(i);
-            }
-        }
-        first
+    // The entry of the first name that only the base has, and the dictionary's number of that name.
+    fn first_missing(&self) -> Option<(usize, &Entry)> {
+        self.entries
+            .iter()
+            .enumerate()
+            .filter(|(_, entry)| entry.base_line.is_some())
+            .min_by_key(|(_, entry)| entry.base_line)
     }
 
     // How many names only the base has.
@@ -131,10 +125,13 @@ impl<'a> Held<'a> {
     }
 
     // Prints the number and the name of an entry, whose name only the base has.
-    fn missing<W: Write>(&self, out: &mut W, before: &str, i: usize) -> io::Result<()> {
-        let Some(entry) = self.entries.get(i) else {
-            return Ok(());
-        };
+    fn missing<W: Write>(
+        &self,
+        out: &mut W,
+        before: &str,
+        i: usize,
+        entry: Entry,
+    ) -> io::Result<()> {
         write!(out, "{before}{} ", entry.number)?;
         number::print_name(out, self.names, i as u64)?;
         writeln!(out)
@@ -142,108 +139,104 @@ impl<'a> Held<'a> {
 }
 
 impl Task for Held<'_> {
-    fn line<W: Write>(&mut self, out: &mut W, tally: &mut Tally, s: &[u8]) -> io::Result<()> {
-        let Some((given, name)) = given_by(s) else {
-            return report::passed_over(out, tally, "not a number, a space and a name");
+    fn line<W: Write>(&mut self, report: &mut Report<'_, W>, s: &[u8]) -> io::Result<()> {
+        let Some(given) = given_by(s) else {
+            return report.passed_over("not a number, a space and a name");
         };
-        let (i, new) = match self.names.add(name) {
-            Added::Fresh(i) => (i as usize, true),
-            Added::Known(i) => (i as usize, false),
-            Added::Refused(refusal) => return report::refused(out, tally, refusal),
+        let added = match self.names.add(given.name) {
+            Ok(added) => added,
+            Err(refusal) => return report.refused(refusal),
         };
-        let Some(entry) = self.entries.get_mut(i) else {
+        let Some(entry) = self.entries.get_mut(added.number() as usize) else {
             return Ok(());
         };
         let before = *entry;
         entry.number = given.number;
-        entry.base_line = match self.role {
-            Role::Base if new => Some(tally.line),
-            Role::Base => before.base_line,
-            Role::Compared | Role::Paired => None,
+        entry.base_line = match (self.role, added) {
+            (Role::Base, Added::Fresh(_)) => Some(report.tally.line),
+            (Role::Base, Added::Known(_)) => before.base_line,
+            (Role::Compared | Role::Paired, _) => None,
         };
-        if new {
-            fresh(out, self.role, tally, given)
-        } else {
-            known(out, self.role, tally, before, given)
+        match added {
+            Added::Fresh(_) => given.fresh(report, self.role),
+            Added::Known(_) => given.known(report, self.role, before),
         }
     }
 }
 
-// The number that a line gives to a name, and the name as it stands there.
+// The number that a line gives to a name, the name's text as it stands there, and the name that the text is.
 #[derive(Clone, Copy)]
 struct Given<'a> {
     number: u64,
     text: &'a [u8],
+    name: Name<'a>,
 }
 
-impl Given<'_> {
-    fn print<W: Write>(self, out: &mut W, before: &str) -> io::Result<()> {
-        report::number_and_line(out, before, self.number, self.text)
-    }
-}
-
-fn given_by(s: &[u8]) -> Option<(Given<'_>, Name<'_>)> {
+fn given_by(s: &[u8]) -> Option<Given<'_>> {
     let behind_word = s
         .strip_prefix(b"fresh ")
         .or_else(|| s.strip_prefix(b"known "));
     let (number, text) = line::numbered(behind_word.unwrap_or(s))?;
-    Some((Given { number, text }, line::name_of(text)?))
+    let name = line::name_of(text)?;
+    Some(Given { number, text, name })
 }
 
-// A name that neither had before.
-fn fresh<W: Write>(out: &mut W, role: Role, tally: &mut Tally, given: Given<'_>) -> io::Result<()> {
-    match role {
-        Role::Base => return Ok(()),
-        Role::Compared if tally.added == 0 => given.print(out, "first only in the second: ")?,
-        Role::Compared => {}
-        Role::Paired => given.print(out, "# only in the first: ")?,
+impl Given<'_> {
+    fn print<W: Write>(self, report: &mut Report<'_, W>, before: &str) -> io::Result<()> {
+        report.number_and_line(before, self.number, self.text)
     }
-    report::count(&mut tally.added);
-    Ok(())
-}
 
-// A name that one of them had before.
-fn known<W: Write>(
-    out: &mut W,
-    role: Role,
-    tally: &mut Tally,
-    before: Entry,
-    given: Given<'_>,
-) -> io::Result<()> {
-    let in_base = before.base_line.is_some();
-    match role {
-        Role::Compared if in_base => compared(out, tally, before.number, given),
-        Role::Paired if in_base => {
-            report::count(&mut tally.agree);
-            write!(out, "{} ", given.number)?;
-            report::number_and_line(out, "", before.number, given.text)
+    // A name that neither had before.
+    fn fresh<W: Write>(self, report: &mut Report<'_, W>, role: Role) -> io::Result<()> {
+        match role {
+            Role::Base => return Ok(()),
+            Role::Compared if report.tally.added == 0 => {
+                self.print(report, "first only in the second: ")?;
+            }
+            Role::Compared => {}
+            Role::Paired => self.print(report, "# only in the first: ")?,
         }
-        // The same numbering had it before.
-        _ if before.number != given.number => given.print(out, "# twice, now with "),
-        _ => Ok(()),
+        count(&mut report.tally.added);
+        Ok(())
     }
-}
 
-// A name that the numbering compared has now for the first time, and that has the number `base` in the base.
-fn compared<W: Write>(
-    out: &mut W,
-    tally: &mut Tally,
-    base: u64,
-    given: Given<'_>,
-) -> io::Result<()> {
-    let Given { number, text } = given;
-    if base == number {
-        report::count(&mut tally.agree);
-        return Ok(());
+    // A name that one of them had before.
+    fn known<W: Write>(
+        self,
+        report: &mut Report<'_, W>,
+        role: Role,
+        before: Entry,
+    ) -> io::Result<()> {
+        let in_base = before.base_line.is_some();
+        match role {
+            Role::Compared if in_base => self.compared(report, before.number),
+            Role::Paired if in_base => {
+                count(&mut report.tally.agree);
+                write!(report.out, "{} ", self.number)?;
+                report.number_and_line("", before.number, self.text)
+            }
+            // The same numbering had it before.
+            _ if before.number != self.number => self.print(report, "# twice, now with "),
+            _ => Ok(()),
+        }
     }
-    if tally.differ == 0 {
-        write!(
-            out,
-            "first difference: {base} in the first, {number} in the second: "
-        )?;
-        out.write_all(text)?;
-        writeln!(out)?;
+
+    // A name that the numbering compared has now for the first time, and that has the number `base` in the base.
+    fn compared<W: Write>(self, report: &mut Report<'_, W>, base: u64) -> io::Result<()> {
+        let Given { number, text, .. } = self;
+        if base == number {
+            count(&mut report.tally.agree);
+            return Ok(());
+        }
+        if report.tally.differ == 0 {
+            write!(
+                report.out,
+                "first difference: {base} in the first, {number} in the second: "
+            )?;
+            report.out.write_all(text)?;
+            writeln!(report.out)?;
+        }
+        count(&mut report.tally.differ);
+        Ok(())
     }
-    report::count(&mut tally.differ);
-    Ok(())
 }

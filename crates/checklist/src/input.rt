@@ -1,6 +1,7 @@
 // The lines of a file, read through a buffer: no file is too long.
 use crate::report;
-use crate::report::{Refusal, Tally};
+use crate::report::{Report, Stop, Tally, count};
+use refusals::Refusal;
 use std::alloc::Global;
 use std::io;
 use std::io::{BufRead, BufReader, Read, Write};
@@ -8,7 +9,7 @@ use std::io::{BufRead, BufReader, Read, Write};
 // What is done with each line of a file.
 pub trait Task {
     // Prints what a line gives, and counts it.
-    fn line<W: Write>(&mut self, out: &mut W, tally: &mut Tally, s: &[u8]) -> io::Result<()>;
+    fn line<W: Write>(&mut self, report: &mut Report<'_, W>, s: &[u8]) -> io::Result<()>;
 }
 
 // A line with its end has at most as many bytes as the buffer.
@@ -57,67 +58,66 @@ fn trimmed(line: u64, s: &[u8]) -> &[u8] {
 }
 
 // Does the task with a line. An empty line, or one that begins with '#', is passed over.
-fn one<W: Write, T: Task>(
-    out: &mut W,
-    task: &mut T,
-    tally: &mut Tally,
-    line: &[u8],
-) -> io::Result<()> {
-    report::count(&mut tally.line);
-    let s = trimmed(tally.line, line);
+fn one<W: Write, T: Task>(report: &mut Report<'_, W>, task: &mut T, line: &[u8]) -> io::Result<()> {
+    count(&mut report.tally.line);
+    let s = trimmed(report.tally.line, line);
     match s {
         [] | [b'#', ..] => Ok(()),
-        _ => task.line(out, tally, s),
+        _ => task.line(report, s),
     }
 }
 
 // A line that is too long is refused, unless it is a remark.
-fn too_long<W: Write>(out: &mut W, tally: &mut Tally, line: &[u8]) -> io::Result<()> {
-    report::count(&mut tally.line);
+fn too_long<W: Write>(report: &mut Report<'_, W>, line: &[u8]) -> io::Result<()> {
+    count(&mut report.tally.line);
     match line {
         [b'#', ..] => Ok(()),
-        _ => report::refused(out, tally, Refusal::TOO_LONG),
+        _ => report.refused(Refusal::TooLong),
     }
 }
 
-// Does the task with each line of an open file. None: it could not be read to its end, and a remark says so.
+// Does the task with each line of an open file. A remark says so if it cannot be read to its end.
 pub fn run<R: Read + Drop, W: Write, T: Task>(
     file: R,
     alloc: Global,
     out: &mut W,
     task: &mut T,
-) -> io::Result<Option<Tally>> {
+) -> Result<Tally, Stop> {
     let mut lines = BufReader::with_capacity(alloc, LONGEST, file)?;
     // A line has this much room from the start, so no memory is asked for while it is read.
     let mut line = Vec::with_capacity(alloc, LONGEST)?;
-    let mut tally = Tally::default();
+    let mut report = Report {
+        out,
+        tally: Tally::default(),
+    };
     // Whether what comes next belongs to a line that is too long, which is refused already.
     let mut cut = false;
+    // Kept: a `for` that counts. A `loop` is no plainer: it needs a measure, and nothing bounds how many lines a file has.
     for _ in 0..u64::MAX {
         // Whoever writes the input line by line has the answers to all lines before this one.
         if !lines.buffer().contains(&b'\n') {
-            out.flush()?;
+            report.out.flush()?;
         }
         let Ok(next) = read_next(&mut lines, &mut line) else {
-            report::remark(out, "cannot be read to its end", b"")?;
-            return Ok(None);
+            report::remark(&mut *report.out, "cannot be read to its end", b"")?;
+            return Err(Stop::Told);
         };
         match next {
             Next::Line if cut => cut = false,
-            Next::Line => one(out, task, &mut tally, line.as_slice())?,
+            Next::Line => one(&mut report, task, line.as_slice())?,
             Next::Piece if cut => {}
             Next::Piece => {
-                too_long(out, &mut tally, line.as_slice())?;
+                too_long(&mut report, line.as_slice())?;
                 cut = true;
             }
             Next::Last => {
                 if !cut {
-                    one(out, task, &mut tally, line.as_slice())?;
+                    one(&mut report, task, line.as_slice())?;
                 }
                 break;
             }
             Next::End => break,
         }
     }
-    Ok(Some(tally))
+    Ok(report.tally)
 }

@@ -10,20 +10,28 @@ pub struct Name<'a> {
 const ROOM: u64 = 1000000000000000000;
 
 // The number at the front of a line, and what is behind it. It has at most 19 digits, which 64 bits hold.
+// Kept: std's parse is no plainer. It reads text to its end and takes some numbers of 20 digits, so the digits would be counted here all the same.
 pub fn number(s: &[u8]) -> Option<(u64, &[u8])> {
     let mut value = 0;
-    let mut digits = 0;
-    for b in s {
-        if !b.is_ascii_digit() || value >= ROOM {
-            break;
-        }
-        value = value * 10 + u64::from(*b - b'0');
-        digits += 1;
+    let mut rest = s;
+    while let [digit @ b'0'..=b'9', behind @ ..] = rest
+        && value < ROOM
+    {
+        value = value * 10 + u64::from(*digit - b'0');
+        rest = behind;
     }
-    if digits == 0 {
+    if rest.len() == s.len() {
         return None;
     }
-    Some((value, &s[digits..]))
+    Some((value, rest))
+}
+
+// The number that a whole line is.
+pub fn whole_number(s: &[u8]) -> Option<u64> {
+    match number(s)? {
+        (value, []) => Some(value),
+        _ => None,
+    }
 }
 
 // A number and a space, and what is behind them.
@@ -35,10 +43,10 @@ pub fn numbered(s: &[u8]) -> Option<(u64, &[u8])> {
 // The name that a line is.
 pub fn name_of(s: &[u8]) -> Option<Name<'_>> {
     let (kind, parts) = numbered(s)?;
-    let tab = lines::end_of(parts, 0, b'\t');
+    let mut parts = parts.splitn(2, |b| *b == b'\t');
     Some(Name {
         kind,
-        first: &parts[..tab],
-        second: &parts[lines::behind(parts, tab)..],
+        first: parts.next().unwrap_or(b""),
+        second: parts.next().unwrap_or(b""),
     })
 }

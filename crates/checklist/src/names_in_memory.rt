@@ -1,7 +1,7 @@
-// The tool's dictionary: the library's entries on memory of its own, and their answers as enums.
+// The tool's dictionary: the library's entries on memory of its own, and their answers as results.
 use crate::line::Name;
-use crate::report::Refusal;
 use numbers::NamedictName;
+use refusals::Refusal;
 use std::alloc::{AllocError, Global};
 
 const PAGE_WIDTH: u64 = 16;
@@ -38,17 +38,28 @@ impl Blocks {
 pub enum Added {
     Fresh(u64),
     Known(u64),
-    Refused(Refusal),
 }
 
-// What a number is read back as.
-#[derive(Clone, Copy)]
-pub enum Told<'a> {
-    Name(Name<'a>),
-    Nothing,
-    Refused(Refusal),
+impl Added {
+    pub fn number(self) -> u64 {
+        match self {
+            Added::Fresh(number) | Added::Known(number) => number,
+        }
+    }
 }
 
+// The word of an answer to a name that is new.
+const FRESH: u64 = 1;
+
+// The refusal that an answer gives by its number; 0 stands for none. The library gives no number above the last refusal's, so the default is never taken.
+fn checked(refusal: u64) -> Result<(), Refusal> {
+    match refusal {
+        0 => Ok(()),
+        _ => Err(Refusal::try_from(refusal).unwrap_or(Refusal::CutForm)),
+    }
+}
+
+// Kept: each of the three programs has such a struct. A common one needs one more crate for two fields, and each program fills and sizes it in its own way.
 #[derive(Drop)]
 pub struct Names {
     pages: Vec<u8>,
@@ -68,7 +79,7 @@ impl Names {
 
     // Begins a dictionary with no names in the same memory. If the blocks are refused, the old dictionary stays.
     pub fn open(&mut self, blocks: Blocks) -> Result<(), Refusal> {
-        let refusal = namedict::namedict_open(
+        checked(namedict::namedict_open(
             self.pages.as_slice(),
             self.lists.as_mut_slice(),
             PAGE_WIDTH,
@@ -76,15 +87,10 @@ impl Names {
             LIST_LENGTH,
             blocks.width,
             blocks.count,
-        );
-        if refusal == 0 {
-            Ok(())
-        } else {
-            Err(Refusal(refusal))
-        }
+        ))
     }
 
-    pub fn add(&mut self, name: Name<'_>) -> Added {
+    pub fn add(&mut self, name: Name<'_>) -> Result<Added, Refusal> {
         let answer = namedict::namedict_add(
             self.pages.as_mut_slice(),
             self.lists.as_mut_slice(),
@@ -92,27 +98,24 @@ impl Names {
             name.first,
             name.second,
         );
-        if answer.refusal != 0 {
-            Added::Refused(Refusal(answer.refusal))
-        } else if answer.word == 1 {
-            Added::Fresh(answer.number)
-        } else {
-            Added::Known(answer.number)
-        }
+        checked(answer.refusal)?;
+        Ok(match answer.word {
+            FRESH => Added::Fresh(answer.number),
+            _ => Added::Known(answer.number),
+        })
     }
 
-    // The name that has this number. The buffer takes its parts.
-    pub fn read<'a>(&self, number: u64, buffer: &'a mut [u8; LONGEST]) -> Told<'a> {
+    // The name that has this number, if there is one. The buffer takes its parts.
+    pub fn read<'a>(
+        &self,
+        number: u64,
+        buffer: &'a mut [u8; LONGEST],
+    ) -> Result<Option<Name<'a>>, Refusal> {
         let pages = self.pages.as_slice();
         let lists = self.lists.as_slice();
         let answer = namedict::namedict_read(pages, lists, number, buffer);
-        if answer.refusal != 0 {
-            return Told::Refused(Refusal(answer.refusal));
-        }
-        match name_in(buffer, answer) {
-            Some(name) => Told::Name(name),
-            None => Told::Nothing,
-        }
+        checked(answer.refusal)?;
+        Ok(name_in(buffer, answer))
     }
 }
 

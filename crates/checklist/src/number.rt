@@ -1,8 +1,8 @@
 // Numbers the name of a line, or reads the number of a line back into a name.
 use crate::input::Task;
-use crate::names_in_memory::{Added, LONGEST, Names, Told};
-use crate::report::Tally;
-use crate::{line, report};
+use crate::line;
+use crate::names_in_memory::{Added, LONGEST, Names};
+use crate::report::{Report, count};
 use std::io;
 use std::io::Write;
 
@@ -13,20 +13,20 @@ pub struct Number<'a> {
 }
 
 impl Task for Number<'_> {
-    fn line<W: Write>(&mut self, out: &mut W, tally: &mut Tally, s: &[u8]) -> io::Result<()> {
+    fn line<W: Write>(&mut self, report: &mut Report<'_, W>, s: &[u8]) -> io::Result<()> {
         let Some(name) = line::name_of(s) else {
-            return report::passed_over(out, tally, "not a kind, a space and a name");
+            return report.passed_over("not a kind, a space and a name");
         };
         match self.names.add(name) {
-            Added::Fresh(number) => {
-                report::count(&mut tally.fresh);
-                report::number_and_line(out, "fresh ", number, s)
+            Ok(Added::Fresh(number)) => {
+                count(&mut report.tally.fresh);
+                report.number_and_line("fresh ", number, s)
             }
-            Added::Known(number) => {
-                report::count(&mut tally.known);
-                report::number_and_line(out, "known ", number, s)
+            Ok(Added::Known(number)) => {
+                count(&mut report.tally.known);
+                report.number_and_line("known ", number, s)
             }
-            Added::Refused(refusal) => report::refused(out, tally, refusal),
+            Err(refusal) => report.refused(refusal),
         }
     }
 }
@@ -38,15 +38,13 @@ pub struct ReadBack<'a> {
 }
 
 impl Task for ReadBack<'_> {
-    fn line<W: Write>(&mut self, out: &mut W, tally: &mut Tally, s: &[u8]) -> io::Result<()> {
-        match line::number(s) {
-            Some((number, [])) => {
-                write!(out, "{number} ")?;
-                print_name(out, self.names, number)?;
-                writeln!(out)
-            }
-            _ => report::passed_over(out, tally, "not a number of 19 digits at the most"),
-        }
+    fn line<W: Write>(&mut self, report: &mut Report<'_, W>, s: &[u8]) -> io::Result<()> {
+        let Some(number) = line::whole_number(s) else {
+            return report.passed_over("not a number of 19 digits at the most");
+        };
+        write!(report.out, "{number} ")?;
+        print_name(&mut *report.out, self.names, number)?;
+        writeln!(report.out)
     }
 }
 
@@ -54,7 +52,7 @@ impl Task for ReadBack<'_> {
 pub fn print_name<W: Write>(out: &mut W, names: &Names, number: u64) -> io::Result<()> {
     let mut buffer = [0u8; LONGEST];
     match names.read(number, &mut buffer) {
-        Told::Name(name) => {
+        Ok(Some(name)) => {
             write!(out, "{} ", name.kind)?;
             out.write_all(name.first)?;
             if !name.second.is_empty() {
@@ -63,7 +61,7 @@ pub fn print_name<W: Write>(out: &mut W, names: &Names, number: u64) -> io::Resu
             }
             Ok(())
         }
-        Told::Nothing => write!(out, "none"),
-        Told::Refused(refusal) => write!(out, "{refusal}"),
+        Ok(None) => write!(out, "none"),
+        Err(refusal) => write!(out, "{refusal}"),
     }
 }

@@ -1,7 +1,9 @@
 // What is printed. A line that begins with '#' is a remark: it is no name and no number, and it is passed over when it is read again.
-use std::fmt::{Display, Formatter};
+use refusals::Refusal;
+use std::alloc::AllocError;
+use std::fmt::Display;
+use std::io;
 use std::io::Write;
-use std::{fmt, io};
 
 // What the lines of a file have given so far.
 #[derive(Clone, Copy, Default)]
@@ -22,31 +24,50 @@ pub fn count(n: &mut u64) {
     *n = n.saturating_add(1);
 }
 
-// Document 01's number of a refusal. It is printed as document 01's word.
-#[derive(Clone, Copy)]
-pub struct Refusal(pub u64);
-
-impl Refusal {
-    pub const TOO_LONG: Refusal = Refusal(5);
+// Why a command that fails is the last one.
+#[derive(Drop)]
+pub enum Stop {
+    // A remark says why, and the program ends as usual.
+    Told,
+    Failed(io::Error),
 }
 
-impl Display for Refusal {
-    fn fmt<W: fmt::Write>(&self, f: &mut Formatter<W>) -> fmt::Result {
-        f.write_str(match self.0 {
-            1 => "bad size",
-            2 => "short memory",
-            3 => "unopened",
-            4 => "bad kind",
-            5 => "too long",
-            6 => "not text",
-            7 => "no tag",
-            8 => "list full",
-            9 => "no page",
-            10 => "no block",
-            11 => "short buffer",
-            12 => "high number",
-            _ => "cut form",
-        })
+impl From<io::Error> for Stop {
+    fn from(error: io::Error) -> Stop {
+        Stop::Failed(error)
+    }
+}
+
+impl From<AllocError> for Stop {
+    fn from(error: AllocError) -> Stop {
+        Stop::Failed(io::Error::from(error))
+    }
+}
+
+// Where the answers to the lines of a file are printed, and what the lines have given so far.
+#[derive(Drop)]
+pub struct Report<'a, W> {
+    pub out: &'a mut W,
+    pub tally: Tally,
+}
+
+impl<W: Write> Report<'_, W> {
+    // Prints a number, and a line or a name behind it.
+    pub fn number_and_line(&mut self, before: &str, number: u64, s: &[u8]) -> io::Result<()> {
+        write!(self.out, "{before}{number} ")?;
+        self.out.write_all(s)?;
+        writeln!(self.out)
+    }
+
+    // Prints why a line cannot be taken, and counts it as refused.
+    pub fn passed_over<D: Display + Drop>(&mut self, why: D) -> io::Result<()> {
+        count(&mut self.tally.refused);
+        let line = self.tally.line;
+        writeln!(self.out, "# line {line}: {why}")
+    }
+
+    pub fn refused(&mut self, refusal: Refusal) -> io::Result<()> {
+        self.passed_over(format_args!("refused, {refusal}"))
     }
 }
 
@@ -54,29 +75,6 @@ pub fn remark<W: Write>(out: &mut W, what: &str, which: &[u8]) -> io::Result<()>
     write!(out, "# {what}")?;
     out.write_all(which)?;
     writeln!(out)
-}
-
-// Prints a number, and a line or a name behind it.
-pub fn number_and_line<W: Write>(
-    out: &mut W,
-    before: &str,
-    number: u64,
-    s: &[u8],
-) -> io::Result<()> {
-    write!(out, "{before}{number} ")?;
-    out.write_all(s)?;
-    writeln!(out)
-}
-
-// Prints why a line cannot be taken, and counts it as refused.
-pub fn passed_over<W: Write>(out: &mut W, tally: &mut Tally, why: &str) -> io::Result<()> {
-    count(&mut tally.refused);
-    writeln!(out, "# line {}: {why}", tally.line)
-}
-
-pub fn refused<W: Write>(out: &mut W, tally: &mut Tally, refusal: Refusal) -> io::Result<()> {
-    count(&mut tally.refused);
-    writeln!(out, "# line {}: refused, {refusal}", tally.line)
 }
 
 pub fn numbered<W: Write>(out: &mut W, tally: &Tally) -> io::Result<()> {

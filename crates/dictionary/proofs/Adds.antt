@@ -5,11 +5,10 @@ use mathlib.Core.Logic.{inl, inr}
 use mathlib.Core.Option.{none, some}
 use native.Mathlib.Omega.{arith}
 use lib.ListN.{length}
+use Rattle.std.specs.Prelude.{Ok, Err}
 use Rattle.slices.specs.Bytes.{Bytes}
 use Rattle.refusals.specs.declared.Refusal.{Refusal}
-use Rattle.refusals.specs.declared.Refusal.TheVariants.{Unopened}
 use Rattle.layout.specs.declared.Sizes.{Sizes}
-use Rattle.header.specs.declared.Header.TheVariants as H
 use Rattle.header.specs.Header.{header_of, sizes_in}
 use Rattle.model.specs.Names.{Name}
 use Rattle.model.specs.Answers.{AddAnswer}
@@ -18,20 +17,21 @@ use Rattle.model.proofs.Decide.{decided-illegal}
 use Rattle.memory.specs.Promises.{AddPost}
 use Rattle.memory.proofs.Beyond.{beyond-same}
 use Rattle.enter.specs.Added.{AddsName}
-use Rattle.memory.proofs.Headers.{no-state, sizes-read, not-always, one-sizes}
+use Rattle.memory.proofs.Headers.{header-refused, no-state, sizes-read, not-always, one-sizes}
 
-pub add-unopened : (pages lists : Bytes) (a : Name) → header_of (length pages) lists ≡ H.Unopened → AddPost pages lists a (AddAnswer.refused Unopened) pages lists
-add-unopened pages lists a e =
+pub add-unopened : (pages lists : Bytes) (a : Name) (why : Refusal) → header_of (length pages) lists ≡ Err why → AddPost pages lists a (AddAnswer.refused why) pages lists
+add-unopened pages lists a why e =
+    let q = header-refused (length pages) lists e in
     record {
-      unopened = λ u. refl;
-      illegal = λ why h. inl refl;
-      bounded = λ c. inl refl;
+      unopened = λ u. ap AddAnswer.refused q;
+      illegal = λ w h. inl (ap AddAnswer.refused q);
+      bounded = λ c. inl q;
       kept = λ f. (refl, refl);
       beyond = beyond-same (sizes_in lists) pages lists;
       whole = λ s st S. absurd (no-state pages lists e s st S);
     }
 
-module _ (pages lists : Bytes) (s : Sizes) (e : header_of (length pages) lists ≡ H.Opened s) (a : Name) where
+module _ (pages lists : Bytes) (s : Sizes) (e : header_of (length pages) lists ≡ Ok s) (a : Name) where
   pub add-illegal : (why : Refusal) → checks s a ≡ some why → AddPost pages lists a (AddAnswer.refused why) pages lists
   add-illegal why i =
       record {

@@ -5,9 +5,8 @@ ghost use Rattle.model.specs.Names.{entered};
 ghost use Rattle.memory.specs.Promises.{AddPost};
 ghost use Rattle.commit.specs.Answers.{added_by};
 
-use commit::AddResult;
-use header::Header;
-use refusals::{Checked, Refusal};
+use commit::Added;
+use refusals::Refusal;
 use search::Search;
 
 // Gives a name its number: a new one, or the one that it has. Both parts have one lifetime, since the rest may lie in either.
@@ -17,24 +16,16 @@ pub fn add<'a>(
     kind: usize,
     first: &'a [u8],
     second: &'a [u8],
-) -> AddResult
+) -> Result<Added, Refusal>
     ensures { AddPost pages.old lists.old (entered kind first.now second.now) (added_by result) pages.new lists.new }
 {
-    let Header::Opened(s) = header::check_header(pages, lists) else {
-        return AddResult::Refused(Refusal::Unopened);
-    };
-    if let Checked::Illegal(why) = names::check_shape(s, kind, first, second) {
-        return AddResult::Refused(why);
-    }
+    let s = header::check_header(pages, lists)?;
+    names::check_shape(s, kind, first, second)?;
     // The text is checked after the search, which does not wait for it.
     let x = search::find_name(pages, lists, s, kind, first, second);
-    let found = x.found;
-    if let Checked::Illegal(why) = names::check_text(kind, first, second, x.ascii) {
-        return AddResult::Refused(why);
-    }
-    match found {
+    names::check_text(kind, first, second, x.ascii)?;
+    match x.found? {
         Search::Found(local) => commit::known(lists, s, kind, local),
         Search::Missing(place) => enter::add_name(pages, lists, s, kind, first, second, x, place),
-        Search::Bad => AddResult::Refused(Refusal::Unopened),
     }
 }

@@ -1,9 +1,10 @@
 -- Document 01's answer for each case of find's result. Assumes nothing.
+use Rattle.std.specs.Prelude.{Option, Some, None, Result, Ok, Err}
+use Rattle.refusals.specs.declared.Refusal.{Refusal}
+use Rattle.meta_dv_dict.specs.declared.GlobalId.{GlobalId}
 use Rattle.model.specs.Answers.{FindAnswer}
-use Rattle.dictionary_find.specs.declared.FindResult.{FindResult}
-use Rattle.dictionary_find.specs.declared.FindResult.TheVariants as F
 
-abbrev pub found_by : FindResult → FindAnswer
-found_by (F.Known x) = FindAnswer.known x.0
-found_by F.Nothing = FindAnswer.absent
-found_by (F.Refused why) = FindAnswer.refused why
+abbrev pub found_by : Result (Option GlobalId) Refusal → FindAnswer
+found_by (Ok (Some x)) = FindAnswer.known x.0
+found_by (Ok None) = FindAnswer.absent
+found_by (Err why) = FindAnswer.refused why

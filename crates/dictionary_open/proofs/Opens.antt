@@ -8,7 +8,7 @@ use Rattle.slices.specs.Bytes.{Bytes}
 use Rattle.refusals.specs.declared.Refusal.{Refusal}
 use Rattle.refusals.specs.declared.Refusal.TheVariants.{BadSize, ShortMemory}
 use Rattle.layout.specs.declared.Sizes.{Sizes}
-use Rattle.layout.specs.declared.Made.TheVariants.{Fit, BadSize as BadMade}
+use Rattle.std.specs.Prelude.{Some, None}
 use Rattle.layout.specs.Sizes.{InRange, made, page_bytes, list_bytes}
 use Rattle.layout.proofs.Ranges.{ranged, made-fit, made-bad}
 use Rattle.header.specs.Opened.{opened_lists}
@@ -30,12 +30,12 @@ module _ (s : Sizes) (pages lists : Bytes) where
         whole = λ h. let z : ◌≡◌ {A = ℕ} 0 1 = cc in absurd (omega arith);
       }
 
-  pub open-bad : made s ≡ BadMade → OpenPost s pages lists (OpenAnswer.refused BadSize) pages lists
+  pub open-bad : made s ≡ None → OpenPost s pages lists (OpenAnswer.refused BadSize) pages lists
   unfolding open_answer
   open-bad m = open-refused BadSize (rw (made-bad s m))
 
 -- The sizes t that passed are the sizes s given.
-module _ (s t : Sizes) (m : made s ≡ Fit t) where
+module _ (s t : Sizes) (m : made s ≡ Some t) where
   pub made_range : InRange t
   made_range =
       let p = made-fit s t m in

@@ -1,8 +1,8 @@
 -- Document 01's answer for each case of open's result. Assumes nothing.
+use Rattle.std.specs.Prelude.{Result, Ok, Err}
+use Rattle.refusals.specs.declared.Refusal.{Refusal}
 use Rattle.model.specs.Answers.{OpenAnswer}
-use Rattle.dictionary_open.specs.declared.OpenResult.{OpenResult}
-use Rattle.dictionary_open.specs.declared.OpenResult.TheVariants as O
 
-abbrev pub opened_by : OpenResult → OpenAnswer
-opened_by O.Done = OpenAnswer.done
-opened_by (O.Refused why) = OpenAnswer.refused why
+abbrev pub opened_by : Result Unit Refusal → OpenAnswer
+opened_by (Ok x) = OpenAnswer.done
+opened_by (Err why) = OpenAnswer.refused why

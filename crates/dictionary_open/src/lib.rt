@@ -4,14 +4,8 @@
 ghost use Rattle.memory.specs.Promises.{OpenPost};
 ghost use Rattle.dictionary_open.specs.Answers.{opened_by};
 
-use layout::{Made, Sizes};
+use layout::Sizes;
 use refusals::Refusal;
-
-#[derive(Clone, Copy)]
-pub enum OpenResult {
-    Done,
-    Refused(Refusal),
-}
 
 // Makes the memory a dictionary with no names: page width p, pages n, list length e, block width w, blocks b.
 pub fn open(
@@ -22,18 +16,16 @@ pub fn open(
     e: usize,
     w: usize,
     b: usize,
-) -> OpenResult
+) -> Result<(), Refusal>
     ensures { OpenPost (record { p = p; n = n; e = e; w = w; b = b }) pages.entry.now lists.old (opened_by result) pages.exit.now lists.new }
 {
-    let Made::Fit(s) = Sizes::new(p, n, e, w, b) else {
-        return OpenResult::Refused(Refusal::BadSize);
-    };
+    let s = Sizes::new(p, n, e, w, b).ok_or(Refusal::BadSize)?;
     if pages.len() < layout::page_bytes(s) {
-        return OpenResult::Refused(Refusal::ShortMemory);
+        return Err(Refusal::ShortMemory);
     }
     if lists.len() < layout::list_bytes(s) {
-        return OpenResult::Refused(Refusal::ShortMemory);
+        return Err(Refusal::ShortMemory);
     }
     header::init(lists, s);
-    OpenResult::Done
+    Ok(())
 }

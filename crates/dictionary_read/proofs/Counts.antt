@@ -5,30 +5,39 @@ use mathlib.Core.Logic.{inl, inr}
 use native.Mathlib.Omega.{arith}
 use borrow.Author.Tests.{le-leb, lt-leb}
 use lib.ListN.{length}
+use Rattle.std.specs.Prelude.{Result, Ok, Err}
 use Rattle.slices.specs.Bytes.{Bytes}
 use Rattle.words.specs.Words.{word_at}
+use Rattle.refusals.specs.declared.Refusal.{Refusal}
 use Rattle.refusals.specs.declared.Refusal.TheVariants.{Unopened, BadKind}
 use Rattle.layout.specs.declared.Sizes.{Sizes}
 use Rattle.layout.specs.Sizes.{kinds}
 use Rattle.layout.specs.Fields.{count_at}
-use Rattle.header.specs.declared.Header.TheVariants as H
 use Rattle.header.specs.Header.{header_of}
-use Rattle.bytes_dictionary.specs.declared.Counted.TheVariants.{Entries, Bad}
 use Rattle.bytes_dictionary.specs.Reading.{count_in}
-use Rattle.bytes_dictionary.proofs.Reading.{counted-by}
+use Rattle.bytes_dictionary.proofs.Reading.{counted-by, uncounted}
 use Rattle.model.specs.Answers.{CountAnswer}
 use Rattle.model.specs.Kinds.{row}
 use Rattle.model.specs.State.{State}
 use Rattle.memory.specs.Stands.{Stands}
 use Rattle.memory.specs.Promises.{CountBounded, CountPost}
+use Rattle.dictionary_read.specs.Answers.{counted_by}
 use Rattle.memory.proofs.Counts.{main-counted}
-use Rattle.memory.proofs.Headers.{no-state, sizes-read, not-always, one-sizes}
+use Rattle.memory.proofs.Headers.{header-refused, no-state, sizes-read, not-always, one-sizes}
 
-pub count-unopened : (pages lists : Bytes) (kind : ℕ) → header_of (length pages) lists ≡ H.Unopened → CountPost pages lists kind (CountAnswer.refused Unopened) pages lists
-count-unopened pages lists kind e =
-    record { unopened = λ u. refl; illegal = λ h. inl refl; bounded = λ k. refl; kept = (refl, refl); whole = λ s st S. absurd (no-state pages lists e s st S) }
+pub count-unopened : (pages lists : Bytes) (kind : ℕ) (why : Refusal) → header_of (length pages) lists ≡ Err why
+    → CountPost pages lists kind (CountAnswer.refused why) pages lists
+count-unopened pages lists kind why e =
+    let q : why ≡ Unopened = header-refused (length pages) lists e in
+    record {
+      unopened = λ u. ap CountAnswer.refused q;
+      illegal = λ h. inl (ap CountAnswer.refused q);
+      bounded = λ k. q;
+      kept = (refl, refl);
+      whole = λ s st S. absurd (no-state pages lists e s st S);
+    }
 
-module _ (pages lists : Bytes) (s : Sizes) (e : header_of (length pages) lists ≡ H.Opened s) (kind : ℕ) where
+module _ (pages lists : Bytes) (s : Sizes) (e : header_of (length pages) lists ≡ Ok s) (kind : ℕ) where
   pub count-bad-kind : kinds ≤ kind → CountPost pages lists kind (CountAnswer.refused BadKind) pages lists
   count-bad-kind h =
       record {
@@ -54,16 +63,9 @@ module _ (pages lists : Bytes) (s : Sizes) (e : header_of (length pages) lists �
         }
 
     -- By the word of the kind's main dictionary.
-    pub count-names : (n : ℕ) → count_in s (word_at lists (count_at (row kind).main_at)) ≡ Entries n → CountPost pages lists kind (CountAnswer.count n) pages lists
-    count-names n h =
-        count-legal (CountAnswer.count n) (let c = counted-by s _ n h in omega (arith, c.0, c.1))
-        (λ st S.
-        let u : Entries n ≡ Entries (length (st.part kind).names) = sym h ∙ main-counted S kind l in
-        let v : n ≡ length (st.part kind).names = cc in ap CountAnswer.count v)
-
-    pub count-bad : count_in s (word_at lists (count_at (row kind).main_at)) ≡ Bad → CountPost pages lists kind (CountAnswer.refused Unopened) pages lists
-    count-bad h =
-        count-legal (CountAnswer.refused Unopened) refl
-        (λ st S.
-        let u : Bad ≡ Entries (length (st.part kind).names) = sym h ∙ main-counted S kind l in
-        let z : ◌≡◌ {A = ℕ} 0 1 = cc in absurd (omega arith))
+    pub counted-names : (r : Result ℕ Refusal) → count_in s (word_at lists (count_at (row kind).main_at)) ≡ r
+        → CountPost pages lists kind (counted_by r) pages lists
+    counted-names (Ok n) h =
+        let c = counted-by s _ n h in
+        count-legal (CountAnswer.count n) (omega (arith, c.0, c.1)) (λ st S. ap CountAnswer.count (cc (sym h ∙ main-counted S kind l)))
+    counted-names (Err why) h = count-legal (CountAnswer.refused why) (uncounted s _ why h).0 (λ st S. absurd (cc (sym h ∙ main-counted S kind l)))

@@ -1,6 +1,6 @@
 -- Each answer of read, and what it leaves in the buffer, is as promised. Assumes nothing.
 use Prim.Native.Nat.{ℕ, ◌+◌, ◌<◌, ◌≤◌}
-use mathlib.Core.Path.{◌≡◌, refl, ◌∙◌}
+use mathlib.Core.Path.{◌≡◌, refl, ap, ◌∙◌}
 use mathlib.Core.Logic.{inl, inr}
 use mathlib.Core.List.{◌++◌, append_assoc}
 use mathlib.Core.Option.{Option, none, some}
@@ -8,10 +8,11 @@ use native.Mathlib.Omega.{arith}
 use borrow.Author.Tests.{le-leb, lt-leb}
 use lib.ListN.{length, drop, length-append, length-drop}
 use lib.Seq.{drop_at}
+use Rattle.std.specs.Prelude.{Some, None, Ok, Err}
 use Rattle.slices.specs.Bytes.{Bytes}
+use Rattle.refusals.specs.declared.Refusal.{Refusal}
 use Rattle.refusals.specs.declared.Refusal.TheVariants.{Unopened, ShortBuffer}
 use Rattle.layout.specs.declared.Sizes.{Sizes}
-use Rattle.header.specs.declared.Header.TheVariants as H
 use Rattle.header.specs.Header.{header_of}
 use Rattle.model.specs.Names.{Name, size}
 use Rattle.model.specs.Answers.{ReadAnswer}
@@ -20,22 +21,23 @@ use Rattle.model.specs.Steps.{read_by, buffer_by}
 use Rattle.memory.specs.Stands.{Stands}
 use Rattle.memory.specs.Promises.{ReadPost}
 use Rattle.locate.specs.declared.Pieces.{Pieces}
-use Rattle.locate.specs.declared.Located.TheVariants.{At, Nothing, Bad}
 use Rattle.locate.specs.Located.{pieces_in, Tells, LocatesName}
-use Rattle.memory.proofs.Headers.{no-state, not-always, one-sizes}
+use Rattle.memory.proofs.Headers.{header-refused, no-state, not-always, one-sizes}
 
-pub read-unopened : (pages lists : Bytes) (number : ℕ) (x : Bytes) → header_of (length pages) lists ≡ H.Unopened → ReadPost pages lists number x (ReadAnswer.refused Unopened) x pages lists
-read-unopened pages lists number x e =
+pub read-unopened : (pages lists : Bytes) (number : ℕ) (x : Bytes) (why : Refusal) → header_of (length pages) lists ≡ Err why
+    → ReadPost pages lists number x (ReadAnswer.refused why) x pages lists
+read-unopened pages lists number x why e =
+    let q : why ≡ Unopened = header-refused (length pages) lists e in
     record {
-      unopened = λ u. refl;
-      bounded = inl refl;
+      unopened = λ u. ap ReadAnswer.refused q;
+      bounded = inl q;
       buffer-length = refl;
       kept = (refl, refl);
       buffer-kept = λ f. refl;
       whole = λ s st S. absurd (no-state pages lists e s st S);
     }
 
-module _ (pages lists : Bytes) (s : Sizes) (e : header_of (length pages) lists ≡ H.Opened s) (number : ℕ) (x : Bytes) where
+module _ (pages lists : Bytes) (s : Sizes) (e : header_of (length pages) lists ≡ Ok s) (number : ℕ) (x : Bytes) where
   -- The answer is right for every state that the memory stands for, if it is right for the name that the number has there.
   told : (r : ReadAnswer) (y : Bytes) (P : Option Name → Type 0) → ((o : Option Name) → P o → (r ≡ read_by x o) × (y ≡ buffer_by x o))
       → ((st : State) → Stands s st pages lists → P (name_of s st number))
@@ -44,7 +46,7 @@ module _ (pages lists : Bytes) (s : Sizes) (e : header_of (length pages) lists �
       let q : t ≡ s = one-sizes pages lists s e t st S in
       rw q (f (name_of s st number) (h st (rw q at S)))
 
-  pub read_none : LocatesName s pages lists number Nothing → ReadPost pages lists number x ReadAnswer.absent x pages lists
+  pub read_none : LocatesName s pages lists number (Ok None) → ReadPost pages lists number x ReadAnswer.absent x pages lists
   read_none h =
       record {
         unopened = λ u. absurd (not-always pages lists s e u);
@@ -52,29 +54,29 @@ module _ (pages lists : Bytes) (s : Sizes) (e : header_of (length pages) lists �
         buffer-length = refl;
         kept = (refl, refl);
         buffer-kept = λ f. refl;
-        whole = told ReadAnswer.absent x (λ o. Tells pages o Nothing) go h.right;
+        whole = told ReadAnswer.absent x (λ o. Tells pages o (Ok None)) go h.right;
       }
     where
-      go : (o : Option Name) → Tells pages o Nothing → (ReadAnswer.absent ≡ read_by x o) × (x ≡ buffer_by x o)
+      go : (o : Option Name) → Tells pages o (Ok None) → (ReadAnswer.absent ≡ read_by x o) × (x ≡ buffer_by x o)
       go none p = (refl, refl)
       go (some a) p = absurd p
 
-  pub read-bad : LocatesName s pages lists number Bad → ReadPost pages lists number x (ReadAnswer.refused Unopened) x pages lists
-  read-bad h =
+  pub read-bad : (why : Refusal) → LocatesName s pages lists number (Err why) → ReadPost pages lists number x (ReadAnswer.refused why) x pages lists
+  read-bad why h =
       record {
         unopened = λ u. absurd (not-always pages lists s e u);
-        bounded = inl refl;
+        bounded = inl h.range;
         buffer-length = refl;
         kept = (refl, refl);
         buffer-kept = λ f. refl;
-        whole = told (ReadAnswer.refused Unopened) x (λ o. Tells pages o Bad) go h.right;
+        whole = told (ReadAnswer.refused why) x (λ o. Tells pages o (Err why)) go h.right;
       }
     where
-      go : (o : Option Name) → Tells pages o Bad → (ReadAnswer.refused Unopened ≡ read_by x o) × (x ≡ buffer_by x o)
+      go : (o : Option Name) → Tells pages o (Err why) → (ReadAnswer.refused why ≡ read_by x o) × (x ≡ buffer_by x o)
       go none p = absurd p
       go (some a) p = absurd p
 
-  module _ (q : Pieces) (h : LocatesName s pages lists number (At q)) where
+  module _ (q : Pieces) (h : LocatesName s pages lists number (Ok (Some q))) where
     pub read_short : length x < q.first + q.second → ReadPost pages lists number x (ReadAnswer.refused ShortBuffer) x pages lists
     read_short l =
         record {
@@ -83,10 +85,10 @@ module _ (pages lists : Bytes) (s : Sizes) (e : header_of (length pages) lists �
           buffer-length = refl;
           kept = (refl, refl);
           buffer-kept = λ f. refl;
-          whole = told (ReadAnswer.refused ShortBuffer) x (λ o. Tells pages o (At q)) go h.right;
+          whole = told (ReadAnswer.refused ShortBuffer) x (λ o. Tells pages o (Ok (Some q))) go h.right;
         }
       where
-        go : (o : Option Name) → Tells pages o (At q) → (ReadAnswer.refused ShortBuffer ≡ read_by x o) × (x ≡ buffer_by x o)
+        go : (o : Option Name) → Tells pages o (Ok (Some q)) → (ReadAnswer.refused ShortBuffer ≡ read_by x o) × (x ≡ buffer_by x o)
         go none p = absurd p
         go (some a) p =
             let t : length x < size a = omega (arith, p.first, p.second) in
@@ -101,10 +103,10 @@ module _ (pages lists : Bytes) (s : Sizes) (e : header_of (length pages) lists �
           buffer-length = rw w (simp (length-append, length-drop) (omega (arith, h.range.lengths)));
           kept = (refl, refl);
           buffer-kept = λ f. absurd (f _ _ _ refl);
-          whole = told (ReadAnswer.name q.kind q.first q.second) y (λ o. Tells pages o (At q)) go h.right;
+          whole = told (ReadAnswer.name q.kind q.first q.second) y (λ o. Tells pages o (Ok (Some q))) go h.right;
         }
       where
-        go : (o : Option Name) → Tells pages o (At q) → (ReadAnswer.name q.kind q.first q.second ≡ read_by x o) × (y ≡ buffer_by x o)
+        go : (o : Option Name) → Tells pages o (Ok (Some q)) → (ReadAnswer.name q.kind q.first q.second ≡ read_by x o) × (y ≡ buffer_by x o)
         go none p = absurd p
         go (some a) p =
             let t : size a ≤ length x = omega (arith, p.first, p.second) in

@@ -4,71 +4,52 @@
 ghost use Rattle.memory.specs.Promises.{ReadPost, CountPost};
 ghost use Rattle.dictionary_read.specs.Answers.{told_by, counted_by};
 
-use bytes_dictionary::Counted;
-use header::Header;
 use layout::KINDS;
-use locate::Located;
 use meta_dv_dict::GlobalId;
 use refusals::Refusal;
 
 // A name's kind and the lengths of its parts.
-#[derive(Clone, Copy)]
-pub enum ReadResult {
-    Name {
-        kind: usize,
-        first: usize,
-        second: usize,
-    },
-    Nothing,
-    Refused(Refusal),
+#[derive(Clone, Copy, Debug, PartialEq, Eq)]
+pub struct Told {
+    pub kind: usize,
+    pub first: usize,
+    pub second: usize,
 }
 
-#[derive(Clone, Copy)]
-pub enum CountResult {
-    Names(usize),
-    Refused(Refusal),
-}
-
-// The name that has a number: its parts at the buffer's start, one after the other.
-pub fn read(pages: &[u8], lists: &[u8], number: GlobalId, buffer: &mut [u8]) -> ReadResult
+// The name that has a number, or None: its parts at the buffer's start, one after the other.
+pub fn read(
+    pages: &[u8],
+    lists: &[u8],
+    number: GlobalId,
+    buffer: &mut [u8],
+) -> Result<Option<Told>, Refusal>
     ensures { ReadPost pages.entry.now lists.entry.now number.0 buffer.old (told_by result) buffer.new pages.exit.now lists.exit.now }
 {
-    let Header::Opened(s) = header::check_header(pages, lists) else {
-        return ReadResult::Refused(Refusal::Unopened);
+    let s = header::check_header(pages, lists)?;
+    let Some(x) = locate::locate_name(pages, lists, s, number)? else {
+        return Ok(None);
     };
-    match locate::locate_name(pages, lists, s, number) {
-        Located::At(x) => {
-            let kind = x.kind;
-            let first = x.first;
-            let second = x.second;
-            if buffer.len() < first + second {
-                return ReadResult::Refused(Refusal::ShortBuffer);
-            }
-            locate::copy_name(pages, x, buffer);
-            ReadResult::Name {
-                kind,
-                first,
-                second,
-            }
-        }
-        Located::Nothing => ReadResult::Nothing,
-        Located::Bad => ReadResult::Refused(Refusal::Unopened),
+    let kind = x.kind;
+    let first = x.first;
+    let second = x.second;
+    if buffer.len() < first + second {
+        return Err(Refusal::ShortBuffer);
     }
+    locate::copy_name(pages, x, buffer);
+    Ok(Some(Told {
+        kind,
+        first,
+        second,
+    }))
 }
 
 // How many names of a kind there are.
-pub fn count(pages: &[u8], lists: &[u8], kind: usize) -> CountResult
+pub fn count(pages: &[u8], lists: &[u8], kind: usize) -> Result<usize, Refusal>
     ensures { CountPost pages.entry.now lists.entry.now kind (counted_by result) pages.exit.now lists.exit.now }
 {
-    let Header::Opened(s) = header::check_header(pages, lists) else {
-        return CountResult::Refused(Refusal::Unopened);
-    };
+    let s = header::check_header(pages, lists)?;
     if KINDS <= kind {
-        return CountResult::Refused(Refusal::BadKind);
+        return Err(Refusal::BadKind);
     }
-    let counted = bytes_dictionary::count(lists, s, kind_table::main_dictionary(kind));
-    let Counted::Entries(n) = counted else {
-        return CountResult::Refused(Refusal::Unopened);
-    };
-    CountResult::Names(n)
+    bytes_dictionary::count(lists, s, kind_table::main_dictionary(kind))
 }

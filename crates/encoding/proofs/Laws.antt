@@ -1,8 +1,7 @@
--- What escaping does to a list of bytes; a stored tag, a byte at a time; comparing one byte. Assumes nothing.
+-- What escaping does to a list of bytes; a stored tag, a byte at a time. Assumes nothing.
 use Prim.Native.Nat.{ℕ, ◌+◌, ◌*◌, ◌≤◌, ◌<◌}
-use mathlib.Core.Path.{◌≡◌, sym}
+use mathlib.Core.Path.{◌≡◌, refl, sym}
 use mathlib.Core.Logic.{◌⊎◌, inl, inr, ◌≢◌}
-use mathlib.Core.Bool.{true, false}
 use mathlib.Core.List.{[], ◌∷◌, ◌++◌, append_assoc}
 use native.Mathlib.Numerals.{add-one}
 use native.Mathlib.Omega.{arith}
@@ -13,6 +12,7 @@ use borrow.Author.Tests.{eqb-true, eqb-false}
 use Rattle.slices.specs.Bytes.{Bytes}
 use Rattle.slices.proofs.Tests.{Split, split}
 use Rattle.encoding.specs.declared.Form.{Form}
+use Rattle.encoding.specs.declared.Form.TheVariants.{Short, Long}
 use Rattle.encoding.specs.Encoding.{escape, escaped, is_long, tag_bytes, form_of, first_byte, encoded_byte, encoded_end, encoded}
 
 -- The three ways in which a byte is stored.
@@ -56,22 +56,19 @@ pub encoded-end : (form : Form) (i : ℕ) (s x : Bytes) → length s ≤ i → x
 unfolding encoded
 encoded-end form i s x l e = rw (e, drop_of_length-le s l)
 
-encoded-short : (form : Form) (s : Bytes) → form.long ≡ false → encoded form s ≡ s
+encoded-short : (s : Bytes) → encoded Short s ≡ s
 unfolding encoded encoded_byte
-encoded-short form [] e = rw e
-encoded-short form (b ∷ s) e = rw (encoded-short form s e, e)
+encoded-short [] = refl
+encoded-short (b ∷ s) = rw (encoded-short s)
 
-encoded-long : (form : Form) (s : Bytes) → form.long ≡ true → encoded form s ≡ escaped s ++ 62 ∷ []
+encoded-long : (s : Bytes) → encoded Long s ≡ escaped s ++ 62 ∷ []
 unfolding encoded encoded_byte escaped
-encoded-long form [] e = rw e
-encoded-long form (b ∷ s) e = rw (encoded-long form s e, e) (sym (append_assoc (escape b) (escaped s) (62 ∷ [])))
+encoded-long [] = refl
+encoded-long (b ∷ s) = rw (encoded-long s) (sym (append_assoc (escape b) (escaped s) (62 ∷ [])))
 
 pub length-encoded : (form : Form) (s : Bytes) → length (encoded form s) ≤ 2 * length s + 1
-length-encoded form s = go (split form.long)
-  where
-    go : Split form.long → length (encoded form s) ≤ 2 * length s + 1
-    go (inl p) = rw (encoded-long form s p) (omega (arith, length-escaped s, length-append (escaped s) (62 ∷ [])))
-    go (inr p) = rw (encoded-short form s p) (omega arith)
+length-encoded Short s = rw (encoded-short s) (omega arith)
+length-encoded Long s = rw (encoded-long s) (omega (arith, length-escaped s, length-append (escaped s) (62 ∷ [])))
 
 -- The stored tag: the byte in front, and what stands behind it.
 pub tag-bytes : (tag : Bytes) → tag_bytes tag ≡ first_byte tag ∷ encoded (form_of tag) tag
@@ -79,7 +76,5 @@ unfolding tag_bytes
 tag-bytes tag = go (split (is_long tag))
   where
     go : Split (is_long tag) → tag_bytes tag ≡ first_byte tag ∷ encoded (form_of tag) tag
-    go (inl p) = rw (encoded-long (form_of tag) tag p, p)
-    go (inr p) = rw (encoded-short (form_of tag) tag p, p)
-
--- ---- comparing one byte
+    go (inl p) = rw (p, encoded-long tag)
+    go (inr p) = rw (p, encoded-short tag)

@@ -2,6 +2,7 @@
 use Rattle.std.specs.Prelude.{ℕ, Bool, not, cond, [], ◌∷◌, ◌++◌, eqb, leb, length}
 use Rattle.slices.specs.Bytes.{Bytes}
 use Rattle.encoding.specs.declared.Form.{Form}
+use Rattle.encoding.specs.declared.Form.TheVariants.{Short, Long}
 use Rattle.encoding.specs.declared.Stored.{Stored}
 use Rattle.encoding.specs.declared.Stored.TheVariants.{Nothing, One, Two}
 
@@ -30,7 +31,7 @@ tag_bytes tag = cond (is_long tag) (long_tag tag) (short_tag tag)
 
 -- How the bytes of a tag are stored.
 abbrev pub form_of : Bytes → Form
-form_of tag = record { long = is_long tag }
+form_of tag = cond (is_long tag) Long Short
 
 -- The byte in front of a tag.
 abbrev pub first_byte : Bytes → ℕ
@@ -38,11 +39,13 @@ first_byte tag = cond (is_long tag) 0 (length tag)
 
 -- One byte of a tag as it is stored.
 unfoldable pub encoded_byte : Form → ℕ → Bytes
-encoded_byte form b = cond form.long (escape b) (b ∷ [])
+encoded_byte Short b = b ∷ []
+encoded_byte Long b = escape b
 
 -- What is stored behind the last byte.
 abbrev pub encoded_end : Form → Bytes
-encoded_end form = cond form.long (62 ∷ []) []
+encoded_end Short = []
+encoded_end Long = 62 ∷ []
 
 -- What stands behind the byte in front.
 unfoldable pub encoded : Form → Bytes → Bytes

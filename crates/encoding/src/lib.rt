@@ -10,14 +10,17 @@ ghost use Rattle.encoding.specs.Encoding.{form_of, first_byte, encoded_byte, enc
 // The most bytes of a tag that is stored with its length in front.
 pub const SHORT: usize = 127;
 
-// How the bytes of a tag are stored: each field is a rule that `encode_byte` and `encode_end` follow.
+// How the bytes of a tag are stored. `encode` and `end` follow it.
 #[derive(Clone, Copy)]
-pub struct Form {
+pub enum Form {
+    // As they are, behind a byte that says how many.
+    Short,
     // Escaped and closed by '>', since the byte in front does not say the length.
-    long: bool,
+    Long,
 }
 
 // What is stored for one byte of a tag, or behind its last.
+// Kept: an enum of its own. It has three cases, and an array with a length is no plainer for two bytes at the most.
 #[derive(Clone, Copy)]
 pub enum Stored {
     Nothing,
@@ -25,12 +28,41 @@ pub enum Stored {
     Two(u8, u8),
 }
 
-// The only test of the length.
-pub fn form_of(tag: &[u8]) -> Form
-    ensures { result ≡ form_of tag.now }
-{
-    Form {
-        long: tag.len() > SHORT,
+impl Form {
+    // The only test of the length.
+    pub fn of(tag: &[u8]) -> Form
+        ensures { result ≡ form_of tag.now }
+    {
+        if tag.len() > SHORT {
+            Form::Long
+        } else {
+            Form::Short
+        }
+    }
+
+    // How a byte of a tag is stored. Only this function knows the escapes.
+    #[tactic(auto, unfolding(crate::specs::Encoding::encoded_byte, crate::specs::Encoding::escape))]
+    pub fn encode(self, b: u8) -> Stored
+        ensures { stored_bytes result ≡ encoded_byte self b }
+    {
+        match self {
+            Form::Short => Stored::One(b),
+            Form::Long => match b {
+                b'\\' => Stored::Two(b'\\', b'\\'),
+                b'>' => Stored::Two(b'\\', b'a'),
+                _ => Stored::One(b),
+            },
+        }
+    }
+
+    // What is stored behind the last byte.
+    pub fn end(self) -> Stored
+        ensures { stored_bytes result ≡ encoded_end self }
+    {
+        match self {
+            Form::Short => Stored::Nothing,
+            Form::Long => Stored::One(b'>'),
+        }
     }
 }
 
@@ -38,75 +70,64 @@ pub fn form_of(tag: &[u8]) -> Form
 pub fn first_byte(tag: &[u8]) -> u8
     ensures { result ≡ first_byte tag.now }
 {
-    let form = form_of(tag);
-    if form.long {
-        return 0;
-    }
-    tag.len() as u8
-}
-
-// How a byte of a tag is stored. Only this function knows the escapes.
-pub fn encode_byte(form: Form, b: u8) -> Stored
-    ensures { stored_bytes result ≡ encoded_byte form b }
-{
-    if !form.long {
-        return Stored::One(b);
-    }
-    if b == b'\\' {
-        return Stored::Two(b'\\', b'\\');
-    }
-    if b == b'>' {
-        return Stored::Two(b'\\', b'a');
-    }
-    Stored::One(b)
-}
-
-// What is stored behind the last byte.
-pub fn encode_end(form: Form) -> Stored
-    ensures { stored_bytes result ≡ encoded_end form }
-{
-    if form.long {
-        return Stored::One(b'>');
-    }
-    Stored::Nothing
-}
-
-pub fn width(u: Stored) -> usize
-    ensures { result ≡ length (stored_bytes u) }
-{
-    match u {
-        Stored::Nothing => 0,
-        Stored::One(_) => 1,
-        Stored::Two(_, _) => 2,
+    match Form::of(tag) {
+        Form::Short => tag.len() as u8,
+        Form::Long => 0,
     }
 }
 
-// Stores u at `at`, and gives the position past it.
-pub fn put_stored(dst: &mut [u8], at: usize, u: Stored) -> usize
-    requires { at + length (stored_bytes u) ≤ length dst.old }
-    ensures { (result ≡ at + length (stored_bytes u)) × (dst.new ≡ sets dst.old at (stored_bytes u)) }
-{
-    match u {
-        Stored::Nothing => at,
-        Stored::One(a) => {
-            dst[at] = a;
-            at + 1
-        }
-        Stored::Two(a, b) => {
-            dst[at] = a;
-            dst[at + 1] = b;
-            at + 2
+impl Stored {
+    pub fn width(self) -> usize
+        ensures { result ≡ length (stored_bytes self) }
+    {
+        match self {
+            Stored::Nothing => 0,
+            Stored::One(_) => 1,
+            Stored::Two(_, _) => 2,
         }
     }
-}
 
-pub fn hash_stored(h: u32, u: Stored) -> u32
-    ensures { result ≡ fnv_from h (stored_bytes u) }
-{
-    match u {
-        Stored::Nothing => h,
-        Stored::One(a) => fnv::fnv_step(h, a),
-        Stored::Two(a, b) => fnv::fnv_step(fnv::fnv_step(h, a), b),
+    // Stores the bytes at `at`, and gives the position past them.
+    pub fn put(self, dst: &mut [u8], at: usize) -> usize
+        requires { at + length (stored_bytes self) ≤ length dst.old }
+        ensures { (result ≡ at + length (stored_bytes self)) × (dst.new ≡ sets dst.old at (stored_bytes self)) }
+    {
+        match self {
+            Stored::Nothing => at,
+            Stored::One(a) => {
+                dst[at] = a;
+                at + 1
+            }
+            Stored::Two(a, b) => {
+                dst[at] = a;
+                dst[at + 1] = b;
+                at + 2
+            }
+        }
+    }
+
+    // Extends the hash h by the bytes.
+    #[tactic(auto, unfolding(fnv::specs::Fnv::fnv_from))]
+    pub fn hash_on(self, h: u32) -> u32
+        ensures { result ≡ fnv_from h (stored_bytes self) }
+    {
+        match self {
+            Stored::Nothing => h,
+            Stored::One(a) => fnv::fnv_step(h, a),
+            Stored::Two(a, b) => fnv::fnv_step(fnv::fnv_step(h, a), b),
+        }
+    }
+
+    // Whether the bytes stand at `at`.
+    pub fn stands_at(self, stored: &[u8], at: usize) -> bool
+        requires { at + length (stored_bytes self) ≤ length stored.now }
+        ensures { result ≡ same_bytes (stored_bytes self) (take (length (stored_bytes self)) (drop at stored.now)) }
+    {
+        match self {
+            Stored::Nothing => true,
+            Stored::One(a) => a == stored[at],
+            Stored::Two(a, b) => a == stored[at] && b == stored[at + 1],
+        }
     }
 }
 
@@ -114,26 +135,5 @@ pub fn hash_stored(h: u32, u: Stored) -> u32
 pub fn has_byte(stored: &[u8], at: usize, a: u8) -> bool
     ensures { result ≡ same_bytes (a ∷ []) (take 1 (drop at stored.now)) }
 {
-    if stored.len() <= at {
-        return false;
-    }
-    a == stored[at]
-}
-
-// Whether u stands at `at`.
-pub fn has_stored(stored: &[u8], at: usize, u: Stored) -> bool
-    requires { at + length (stored_bytes u) ≤ length stored.now }
-    ensures { result ≡ same_bytes (stored_bytes u) (take (length (stored_bytes u)) (drop at stored.now)) }
-{
-    match u {
-        Stored::Nothing => true,
-        Stored::One(a) => a == stored[at],
-        Stored::Two(a, b) => {
-            if a == stored[at] {
-                b == stored[at + 1]
-            } else {
-                false
-            }
-        }
-    }
+    stored.get(at) == Some(&a)
 }

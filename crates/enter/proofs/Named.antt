@@ -1,14 +1,16 @@
 -- What an add promises for a name, from where its search ended. Assumes nothing.
 use Prim.Native.Nat.{ℕ}
 use mathlib.Core.Path.{◌≡◌, refl, sym, ap, subst, ◌∙◌}
-use mathlib.Core.Logic.{inl}
-use mathlib.Core.Bool.{true, false, false≢true}
+use mathlib.Core.Logic.{inl, inr}
+use mathlib.Core.Bool.{false≢true}
 use mathlib.Core.List.{[], ◌++◌}
 use mathlib.Core.Option.{none}
 use native.Mathlib.Omega.{arith}
 use lib.ListN.{length}
+use Rattle.std.specs.Prelude.{Some, None, Result, Ok, Err}
 use Rattle.slices.specs.Bytes.{Bytes}
 use Rattle.words.specs.Words.{word_at}
+use Rattle.refusals.specs.declared.Refusal.{Refusal}
 use Rattle.refusals.specs.declared.Refusal.TheVariants.{Unopened}
 use Rattle.layout.specs.declared.Sizes.{Sizes}
 use Rattle.layout.specs.Sizes.{kinds}
@@ -19,9 +21,8 @@ use Rattle.bytes_key.specs.declared.Key.{Key}
 use Rattle.bytes_index.specs.declared.Probe.{Probe}
 use Rattle.bytes_index.specs.declared.Probe.TheVariants as P
 use Rattle.bytes_index.specs.Search.{Searched}
-use Rattle.bytes_dictionary.specs.declared.Counted.{Counted}
-use Rattle.bytes_dictionary.specs.declared.Counted.TheVariants as C
 use Rattle.bytes_dictionary.specs.Reading.{count_in}
+use Rattle.bytes_dictionary.proofs.Reading.{uncounted as refused-count}
 use Rattle.model.specs.Names.{Name}
 use Rattle.model.specs.Answers.{AddAnswer}
 use Rattle.model.specs.Kinds.{row}
@@ -34,11 +35,10 @@ use Rattle.memory.specs.Promises.{AddBounded}
 use Rattle.memory.proofs.Beyond.{beyond-same}
 use Rattle.memory.proofs.Entered.{known-one, key-new, head-missing}
 use Rattle.search.specs.declared.Sought.{Sought}
-use Rattle.search.specs.declared.Search.TheVariants.{Bad}
 use Rattle.search.specs.Found.{key_behind, KeyEnded, HeadEnded, EndedBy}
 use Rattle.search.proofs.Ends.{own_key, own_new, tells}
-use Rattle.commit.specs.declared.AddResult.{AddResult}
-use Rattle.commit.specs.declared.AddResult.TheVariants.{Fresh, Known, Refused}
+use Rattle.commit.specs.declared.Added.{Added}
+use Rattle.commit.specs.declared.Added.TheVariants.{Fresh, Known}
 use Rattle.commit.specs.Answers.{added_by, KnownBounded, Knows}
 use Rattle.enter.specs.Added.{EntersName, AddsName}
 use Rattle.enter.proofs.Adds.{never, adds}
@@ -48,15 +48,15 @@ abbrev pub head_word : Bytes → ℕ → ℕ
 head_word lists k = word_at lists (count_at (row k).heads_at)
 
 -- A count that was read in a kind's dictionary of heads.
-pub counted-head : (s : Sizes) (lists : Bytes) (k d : ℕ) (r x : Counted) → d ≡ (row k).heads_at → r ≡ count_in s (word_at lists (count_at d)) → r ≡ x
-    → count_in s (head_word lists k) ≡ x
-counted-head s lists k d r x q e f = ap (λ (j : ℕ). count_in s (word_at lists (count_at j))) (sym q) ∙ sym e ∙ f
+pub counted-head : (s : Sizes) (lists : Bytes) (k d : ℕ) (r : Result ℕ Refusal) → d ≡ (row k).heads_at → r ≡ count_in s (word_at lists (count_at d))
+    → count_in s (head_word lists k) ≡ r
+counted-head s lists k d r q e = ap (λ (j : ℕ). count_in s (word_at lists (count_at j))) (sym q) ∙ sym e
 
 module _ (s : Sizes) (pages lists : Bytes) (a : Name) (L : Lent s pages lists kinds a.kind) (x : Sought) where
   -- ---- nothing is written
 
   -- The name is stored.
-  pub adds-known : (i : ℕ) (K : KeyEnded s pages lists a.kind ((row a.kind).head a) ((row a.kind).rest a) x (P.At i)) (r : AddResult) → Knows s lists a.kind i r
+  pub adds-known : (i : ℕ) (K : KeyEnded s pages lists a.kind ((row a.kind).head a) ((row a.kind).rest a) x (Ok (P.At i))) (r : Result Added Refusal) → Knows s lists a.kind i r
       → AddsName s a pages lists (added_by r) pages lists
   adds-known i K r H =
       record {
@@ -64,74 +64,83 @@ module _ (s : Sizes) (pages lists : Bytes) (a : Name) (L : Lent s pages lists ki
         kept = λ n. (refl, refl);
         beyond = beyond-same s pages lists;
         whole = λ st S legal.
-            let o = own_key S a legal x (P.At i) K in
-            let e = known-one S a legal o.0 i (subst (λ (y : Bytes). Searched s (row a.kind).main_at pages lists y (P.At i)) (sym o.1) K.searched) in
+            let o = own_key S a legal x (Ok (P.At i)) K in
+            let e = known-one S a legal o.0 i (subst (λ (y : Bytes). Searched s (row a.kind).main_at pages lists y (Ok (P.At i))) (sym o.1) K.searched) in
             rw e.0 (H.right st.blocks S.blocked e.1, S);
       }
     where
-      bound : (y : AddResult) → KnownBounded s y → AddBounded s (added_by y)
-      bound (Fresh n) h = absurd h
-      bound (Known n) h = h
-      bound (Refused why) h = inl h
+      bound : (y : Result Added Refusal) → KnownBounded s y → AddBounded s (added_by y)
+      bound (Ok (Fresh n)) h = absurd h
+      bound (Ok (Known n)) h = h
+      bound (Err why) h = inl h
 
   -- The memory is no dictionary's.
-  pub adds-bad : EndedBy s pages lists a.kind ((row a.kind).head a) ((row a.kind).rest a) x Bad → AddsName s a pages lists (AddAnswer.refused Unopened) pages lists
-  adds-bad E = never s pages lists a (λ st S legal. tells S a legal x Bad E)
+  pub adds-bad : (why : Refusal) → EndedBy s pages lists a.kind ((row a.kind).head a) ((row a.kind).rest a) x (Err why) → AddsName s a pages lists (AddAnswer.refused why) pages lists
+  adds-bad why E = never s pages lists a why (ranged E) (λ st S legal. tells S a legal x (Err why) E)
+    where
+      ranged : EndedBy s pages lists a.kind ((row a.kind).head a) ((row a.kind).rest a) x (Err why) → why ≡ Unopened
+      ranged (inl H) = H.searched.range
+      ranged (inr K) = K.searched.range
 
   -- ---- the name is entered
 
   -- The head is stored, or the kind has none: one entry.
-  pub adds-key : (place : ℕ) (K : KeyEnded s pages lists a.kind ((row a.kind).head a) ((row a.kind).rest a) x (P.Free place)) (its_key : Key) (hhash : ℕ) (key : Bytes)
+  pub adds-key : (place : ℕ) (K : KeyEnded s pages lists a.kind ((row a.kind).head a) ((row a.kind).rest a) x (Ok (P.Free place))) (its_key : Key) (key : Bytes)
       → key_behind a.kind K.f ((row a.kind).rest a) ≡ key
       → (r : AddAnswer) (pages' lists' : Bytes)
-      → EntersName s pages lists (record { k = a.kind; key = its_key; place = place; newhead = false; f = 0; headplace = 0; headhash = hhash }) [] key r pages' lists'
+      → EntersName s pages lists (record { k = a.kind; key = its_key; place = place; head = None }) [] key r pages' lists'
       → AddsName s a pages lists r pages' lists'
-  adds-key place K its_key hhash key e =
-      adds s pages lists a L its_key place false 0 0 hhash [] key (omega (arith, L.ranged.e)) (subst (λ (y : Bytes). Searched s (row a.kind).main_at pages lists y (P.Free place)) e K.searched)
+  adds-key place K its_key key e =
+      adds s pages lists a L its_key place None [] key (omega (arith, L.ranged.e))
+      (subst (λ (y : Bytes). Searched s (row a.kind).main_at pages lists y (Ok (P.Free place))) e K.searched)
       (λ w. absurd (false≢true w))
       (λ w. omega (arith, L.ranged.e))
       (λ st S legal.
-      let o = own_key S a legal x (P.Free place) K in
+      let o = own_key S a legal x (Ok (P.Free place)) K in
       record { new_is = o.0; headed = λ w. absurd (false≢true w); numbered = λ w. absurd (false≢true w); keyed = o.1 ∙ e })
 
   -- The head is not stored, and its search ended at hplace: the head and its pair.
-  module _ (hplace : ℕ) (H : HeadEnded s pages lists a.kind ((row a.kind).head a) x (P.Free hplace)) where
-    pub uncounted : count_in s (head_word lists a.kind) ≡ C.Bad → AddsName s a pages lists (AddAnswer.refused Unopened) pages lists
-    uncounted e =
-        never s pages lists a
+  module _ (hplace : ℕ) (H : HeadEnded s pages lists a.kind ((row a.kind).head a) x (Ok (P.Free hplace))) where
+    pub uncounted : (why : Refusal) → count_in s (head_word lists a.kind) ≡ Err why → AddsName s a pages lists (AddAnswer.refused why) pages lists
+    uncounted why e =
+        never s pages lists a why (refused-count s (head_word lists a.kind) why e).0
         (λ st S legal.
-        let f : C.Bad ≡ C.Entries (length (st.part a.kind).heads) = sym e ∙ head-counted S a.kind L.known H.paired in
-        let z : ◌≡◌ {A = ℕ} 0 1 = cc in omega arith)
+        let f : ◌≡◌ {A = Result ℕ Refusal} (Err why) (Ok (length (st.part a.kind).heads)) = sym e ∙ head-counted S a.kind L.known H.paired in cc)
 
-    module _ (f : ℕ) (counted : count_in s (head_word lists a.kind) ≡ C.Entries f) where
+    module _ (f : ℕ) (counted : count_in s (head_word lists a.kind) ≡ Ok f) where
       heads-are : {st : State} → Stands s st pages lists → length (st.part a.kind).heads ≡ f
-      heads-are {st} S = let e : C.Entries f ≡ C.Entries (length (st.part a.kind).heads) = sym counted ∙ head-counted S a.kind L.known H.paired in cc
+      heads-are {st} S =
+          let e : ◌≡◌ {A = Result ℕ Refusal} (Ok f) (Ok (length (st.part a.kind).heads)) = sym counted ∙ head-counted S a.kind L.known H.paired in cc
 
       key-is : {st : State} → Stands s st pages lists → checks s a ≡ none → key_of (st.part a.kind).heads a ≡ fid f ++ (row a.kind).rest a
       key-is S legal = key-new S a legal (own_new S a legal x hplace H) ∙ ap (λ (n : ℕ). fid n ++ (row a.kind).rest a) (heads-are S)
 
       -- A pair with the number that the head is about to get is never there.
-      pub occupied : (r : Probe) → ((j : ℕ) → r ≡ P.Free j → ⊥) → Searched s (row a.kind).main_at pages lists (fid f ++ (row a.kind).rest a) r
+      pub occupied : (r : Probe) → ((j : ℕ) → r ≡ P.Free j → ⊥) → Searched s (row a.kind).main_at pages lists (fid f ++ (row a.kind).rest a) (Ok r)
           → AddsName s a pages lists (AddAnswer.refused Unopened) pages lists
       occupied (P.At i) t q =
-          never s pages lists a
+          never s pages lists a Unopened refl
           (λ st S legal.
-          head-missing S a legal (own_new S a legal x hplace H) i (subst (λ (y : Bytes). Searched s (row a.kind).main_at pages lists y (P.At i)) (sym (key-is S legal)) q))
+          head-missing S a legal (own_new S a legal x hplace H) i (subst (λ (y : Bytes). Searched s (row a.kind).main_at pages lists y (Ok (P.At i))) (sym (key-is S legal)) q))
       occupied (P.Free j) t q = absurd (t j refl)
-      occupied P.Bad t q = never s pages lists a (λ st S legal. main-bad s st pages lists S a.kind L.known _ q)
 
-      pub adds-pair : (place : ℕ) (its_key : Key) (hhash : ℕ) (head key : Bytes) → (row a.kind).head a ≡ head → fid f ++ (row a.kind).rest a ≡ key
-          → Searched s (row a.kind).main_at pages lists key (P.Free place)
+      pub unsearched : (why : Refusal) → Searched s (row a.kind).main_at pages lists (fid f ++ (row a.kind).rest a) (Err why)
+          → AddsName s a pages lists (AddAnswer.refused why) pages lists
+      unsearched why q = never s pages lists a why q.range (λ st S legal. main-bad s st pages lists S a.kind L.known _ q)
+
+      pub adds-pair : (place : ℕ) (its_key : Key) (h : ℕ) (head key : Bytes) → (row a.kind).head a ≡ head → fid f ++ (row a.kind).rest a ≡ key
+          → Searched s (row a.kind).main_at pages lists (fid f ++ (row a.kind).rest a) (Ok (P.Free place))
           → (r : AddAnswer) (pages' lists' : Bytes)
-          → EntersName s pages lists (record { k = a.kind; key = its_key; place = place; newhead = true; f = f; headplace = hplace; headhash = hhash }) head key r pages' lists'
+          → EntersName s pages lists (record { k = a.kind; key = its_key; place = place; head = Some (record { f = f; place = hplace; h = h }) }) head key r pages' lists'
           → AddsName s a pages lists r pages' lists'
-      adds-pair place its_key hhash head key h e q =
-          adds s pages lists a L its_key place true f hplace hhash head key H.searched.range q
-          (λ w. subst (λ (y : Bytes). Searched s (row a.kind).heads_at pages lists y (P.Free hplace)) h H.searched)
+      adds-pair place its_key h head key p e q =
+          adds s pages lists a L its_key place (Some (record { f = f; place = hplace; h = h })) head key H.searched.range
+          (subst (λ (y : Bytes). Searched s (row a.kind).main_at pages lists y (Ok (P.Free place))) e q)
+          (λ w. subst (λ (y : Bytes). Searched s (row a.kind).heads_at pages lists y (Ok (P.Free hplace))) p H.searched)
           (λ w. absurd (false≢true (sym w)))
           (λ st S legal. record {
             new_is = own_new S a legal x hplace H;
-            headed = λ w. h;
+            headed = λ w. p;
             numbered = λ w. heads-are S;
             keyed = key-is S legal ∙ e;
           })

@@ -1,5 +1,5 @@
 -- What an add leaves: a plan carried out, and its promise for the name. Assumes nothing.
-use Rattle.std.specs.Prelude.{ℕ, ◌+◌, ◌*◌, ◌%◌, ◌^◌, ◌≡◌, length}
+use Rattle.std.specs.Prelude.{ℕ, ◌+◌, ◌*◌, ◌%◌, ◌^◌, ◌≡◌, length, Result, Ok, Err}
 use Rattle.std.proofs.Math.Option.{none}
 use Rattle.slices.specs.Bytes.{Bytes}
 use Rattle.layout.specs.declared.Sizes.{Sizes}
@@ -9,23 +9,24 @@ use Rattle.model.specs.State.{State}
 use Rattle.model.specs.Steps.{checks, add_answer, after_add}
 use Rattle.memory.specs.Stands.{Stands}
 use Rattle.memory.specs.Promises.{SameBeyond, AddBounded}
-use Rattle.plan.specs.declared.Planned.{Planned}
-use Rattle.plan.specs.declared.Planned.TheVariants.{Ready, Refused}
+use Rattle.refusals.specs.declared.Refusal.{Refusal}
+use Rattle.plan.specs.declared.Plan.{Plan}
 use Rattle.plan.specs.Plans.{Plans}
+use Rattle.plan_room.specs.Steps.{is_new, head_number}
 use Rattle.commit.specs.declared.NewName.{NewName}
-use Rattle.commit.specs.Written.{name_pages, name_lists}
+use Rattle.commit.specs.Written.{head_of, head_place, name_pages, name_lists}
 
 -- A plan carried out: a refusal leaves all as found, else the number is fresh and the plan is written.
-abbrev pub CarriedOut : Sizes → Bytes → Bytes → NewName → Bytes → Bytes → Planned → AddAnswer → Bytes → Bytes → Type 0
-CarriedOut s pages lists w head key (Refused why) r pages' lists' = (r ≡ AddAnswer.refused why) × (pages' ≡ pages) × (lists' ≡ lists)
-CarriedOut s pages lists w head key (Ready x) r pages' lists' =
+abbrev pub CarriedOut : Sizes → Bytes → Bytes → NewName → Bytes → Bytes → Result Plan Refusal → AddAnswer → Bytes → Bytes → Type 0
+CarriedOut s pages lists w head key (Err why) r pages' lists' = (r ≡ AddAnswer.refused why) × (pages' ≡ pages) × (lists' ≡ lists)
+CarriedOut s pages lists w head key (Ok x) r pages' lists' =
     (r ≡ AddAnswer.fresh (x.g * 2 ^ s.w + x.n % 2 ^ s.w))
     × (pages' ≡ name_pages s pages x head key)
-    × (lists' ≡ name_lists s lists w.k w.f w.headplace w.place x head key)
+    × (lists' ≡ name_lists s lists w.k (head_number (head_of w)) (head_place w) w.place x head key)
 
 pub record EntersName (s : Sizes) (pages lists : Bytes) (w : NewName) (head key : Bytes) (r : AddAnswer) (pages' lists' : Bytes) : Type 0 where
-  pub plan : Planned
-  pub planned : Plans s lists w.k w.newhead w.f (length head) (length key) plan
+  pub plan : Result Plan Refusal
+  pub planned : Plans s lists w.k (is_new (head_of w)) (head_number (head_of w)) (length head) (length key) plan
   pub carried : CarriedOut s pages lists w head key plan r pages' lists'
 
 -- ---- the promise for a name

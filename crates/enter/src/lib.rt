@@ -13,15 +13,14 @@ ghost use Rattle.model.specs.Steps.{shape_refusal};
 ghost use Rattle.search.specs.declared.Place.TheVariants as P;
 ghost use Rattle.search.specs.Found.{PlaceEnded};
 ghost use Rattle.commit.specs.Answers.{added_by};
+ghost use Rattle.commit.specs.Written.{HeadReady};
 ghost use Rattle.enter.specs.Added.{EntersName, AddsName};
 
-use bytes_dictionary::Counted;
 use bytes_index::Probe;
 use bytes_key::Key;
-use commit::{AddResult, NewName};
+use commit::{Added, NewHead, NewName};
 use layout::Sizes;
 use parts::Mode;
-use plan::Planned;
 use refusals::Refusal;
 use search::{Place, Sought};
 
@@ -34,21 +33,22 @@ fn enter_name(
     head: &[u8],
     front: &[u8],
     rest: &[u8],
-) -> AddResult
-    requires lent { Lent s pages.old lists.old kinds w.k × (w.headplace < 2 * s.e) × (w.place < 2 * s.e) × (w.key.d ≡ (row w.k).main_at) }
-    requires key { IsKey w.key front.now rest.now × (w.headhash ≡ fnv_of head.now) }
+) -> Result<Added, Refusal>
+    requires lent { Lent s pages.old lists.old kinds w.k × HeadReady s head.now w.head × (w.place < 2 * s.e) × (w.key.d ≡ (row w.k).main_at) }
+    requires key { IsKey w.key front.now rest.now }
     requires head_len_bound { (length head.now ≤ page_size s) × (length (bytes_in w.key front.now rest.now) ≤ page_size s) }
     ensures { EntersName s pages.old lists.old w head.now (bytes_in w.key front.now rest.now) (added_by result) pages.new lists.new }
 {
     let key = w.key;
     let len = bytes_key::key_length(key, front, rest);
-    match plan::plan_name(lists, s, w.k, w.newhead, w.f, head.len(), len) {
-        Planned::Ready(x) => commit::commit(pages, lists, s, w, x, head, front, rest),
-        Planned::Refused(why) => AddResult::Refused(why),
-    }
+    let newhead = w.head.map(|x| x.f);
+    let x = plan::plan_name(lists, s, w.k, newhead, head.len(), len)?;
+    let number = commit::commit(pages, lists, s, w, x, head, front, rest);
+    Ok(Added::Fresh(number))
 }
 
 // Adds a name whose head is stored, or whose kind has none (Nemo's add_str): one entry. The search for its key ended at `place`.
+#[inline(always)]
 fn add_str<'a>(
     pages: &mut [u8],
     lists: &mut [u8],
@@ -58,7 +58,7 @@ fn add_str<'a>(
     second: &'a [u8],
     x: Sought,
     place: usize,
-) -> AddResult
+) -> Result<Added, Refusal>
     requires lent { Lent s pages.old lists.old kinds kind × (shape_refusal s (entered kind first.now second.now) ≡ none) }
     requires place_ended { PlaceEnded s pages.old lists.old (entered kind first.now second.now) x (P.Key place) }
     ensures { AddsName s (entered kind first.now second.now) pages.old lists.old (added_by result) pages.new lists.new }
@@ -74,24 +74,20 @@ fn add_str<'a>(
         k: kind,
         key,
         place,
-        newhead: false,
-        f: 0,
-        headplace: 0,
-        headhash: fnv::START,
+        head: None,
     };
     if !kind_table::has_heads(kind) {
         return enter_name(pages, lists, s, w, none, second, first);
     }
     let n = names::head_length(kind, first);
     let rest = names::rest_behind(kind, first, second, n);
-    let lead = x.lead;
-    let m = lead.len;
-    let bytes = lead.bytes;
-    enter_name(pages, lists, s, w, none, &bytes[..m], rest)
+    enter_name(pages, lists, s, w, none, x.lead.as_slice(), rest)
 }
 
 // Adds a name whose head is not stored (Nemo's add_pair): the head and its pair. The search for the head ended at `headplace`. The head's number is how many
 // heads there were.
+// Kept: two functions. Their parameters are alike, but `add_str` stores one entry and this stores two.
+#[inline(always)]
 fn add_pair<'a>(
     pages: &mut [u8],
     lists: &mut [u8],
@@ -101,43 +97,42 @@ fn add_pair<'a>(
     second: &'a [u8],
     x: Sought,
     headplace: usize,
-) -> AddResult
+) -> Result<Added, Refusal>
     requires lent { Lent s pages.old lists.old kinds kind × (shape_refusal s (entered kind first.now second.now) ≡ none) }
     requires place_ended { PlaceEnded s pages.old lists.old (entered kind first.now second.now) x (P.Head headplace) }
     ensures { AddsName s (entered kind first.now second.now) pages.old lists.old (added_by result) pages.new lists.new }
 {
-    let Counted::Entries(f) = bytes_dictionary::count(lists, s, kind_table::head_dictionary(kind))
-    else {
-        return AddResult::Refused(Refusal::Unopened);
-    };
+    let f = bytes_dictionary::count(lists, s, kind_table::head_dictionary(kind))?;
     let n = names::head_length(kind, first);
     let rest = names::rest_behind(kind, first, second, n);
     let lead = ranked_pair_dictionary::lead_of(f);
-    let m = lead.len;
-    let bytes = lead.bytes;
     let key = Key {
         d: kind_table::main_dictionary(kind),
-        h: fnv::fnv_from(fnv::fnv(&bytes[..m]), rest),
+        h: fnv::fnv_from(fnv::fnv(lead.as_slice()), rest),
         front: Mode::Raw,
         rest: Mode::Raw,
     };
-    let Probe::Free(place) = bytes_index::bytes_to_id(pages, lists, s, key, &bytes[..m], rest)
+    let Probe::Free(place) = bytes_index::bytes_to_id(pages, lists, s, key, lead.as_slice(), rest)?
     else {
-        return AddResult::Refused(Refusal::Unopened);
+        return Err(Refusal::Unopened);
+    };
+    let newhead = NewHead {
+        f,
+        place: headplace,
+        h: x.headhash,
     };
     let w = NewName {
         k: kind,
         key,
         place,
-        newhead: true,
-        f,
-        headplace,
-        headhash: x.headhash,
+        head: Some(newhead),
     };
-    enter_name(pages, lists, s, w, &first[..n], &bytes[..m], rest)
+    enter_name(pages, lists, s, w, &first[..n], lead.as_slice(), rest)
 }
 
 // Adds a name that is legal and not stored. The search for it ended at `place`.
+// This function and the two above are merged into their caller: one frame for all of them keeps an add under 1 KiB of stack.
+#[inline(always)]
 pub fn add_name<'a>(
     pages: &mut [u8],
     lists: &mut [u8],
@@ -147,7 +142,7 @@ pub fn add_name<'a>(
     second: &'a [u8],
     x: Sought,
     place: Place,
-) -> AddResult
+) -> Result<Added, Refusal>
     requires lent { Lent s pages.old lists.old kinds kind × (shape_refusal s (entered kind first.now second.now) ≡ none) }
     requires place_ended { PlaceEnded s pages.old lists.old (entered kind first.now second.now) x place }
     ensures { AddsName s (entered kind first.now second.now) pages.old lists.old (added_by result) pages.new lists.new }

@@ -1,11 +1,10 @@
 -- Document 01's worked examples, M1 to M11, said of the definitions that the contracts cite. Assumes nothing.
-use Rattle.std.specs.Prelude.{ℕ, zero, suc, ◌^◌, ◌≡◌, true, false, List, [], ◌∷◌, ◌++◌, replicate, drop}
+use Rattle.std.specs.Prelude.{ℕ, zero, suc, ◌^◌, ◌≡◌, true, false, List, [], ◌∷◌, ◌++◌, replicate, drop, Ok, Err}
 use Rattle.std.proofs.Math.Option.{none, some}
 use Rattle.slices.specs.Bytes.{Bytes}
 use Rattle.utf8.specs.Text.{is_text}
 use Rattle.refusals.specs.declared.Refusal.TheVariants.{HighNumber, NoBlock}
 use Rattle.refusals.specs.Numbers.{refusal_number}
-use Rattle.refusals.specs.declared.Written.TheVariants.{Length, Refused}
 use Rattle.ranked_pair_iri_dv_dict.specs.Split.{head_of, length_of}
 use Rattle.ranked_pair_dictionary.specs.FrequentId.{write_fid_answer, write_fid_buffer}
 use Rattle.layout.specs.declared.Sizes.{Sizes}
@@ -74,13 +73,13 @@ pub record Examples : Type 0 where
       ≡ (63 ∷ found 4) ∷ (64 ∷ 64 ∷ found 3) ∷ (127 ∷ 255 ∷ found 3) ∷ (128 ∷ 64 ∷ 0 ∷ found 2) ∷ []
   -- M5 the frequent id of 4,194,304; 2^30 gives 12.
   pub m5 : write_fid_buffer 4194304 (found 5) ≡ 192 ∷ 64 ∷ 0 ∷ 0 ∷ found 1
-  pub m5-answers : write_fid_answer 4194304 5 ∷ write_fid_answer (2 ^ 30) 5 ∷ [] ≡ Length 4 ∷ Refused HighNumber ∷ []
+  pub m5-answers : write_fid_answer 4194304 5 ∷ write_fid_answer (2 ^ 30) 5 ∷ [] ≡ Ok 4 ∷ Err HighNumber ∷ []
   pub m5-number : refusal_number HighNumber ≡ 12
   -- M6 text `Ein`, tag `de`.
   pub m6 : pack_buffer (69 ∷ 105 ∷ 110 ∷ []) (100 ∷ 101 ∷ []) (found 7) ≡ 2 ∷ 100 ∷ 101 ∷ 69 ∷ 105 ∷ 110 ∷ found 1
   -- M7 a tag of 127 'a' and '>', text empty.
   pub m7 : pack_buffer [] m7_tag (found 131) ≡ 0 ∷ replicate 127 97 ++ 92 ∷ 97 ∷ 62 ∷ []
-  pub m7-answer : pack_answer [] m7_tag 131 ≡ Length 131
+  pub m7-answer : pack_answer [] m7_tag 131 ≡ Ok 131
   -- M8 text: yes; no, no, no.
   pub m8 : is_text (244 ∷ 143 ∷ 191 ∷ 191 ∷ []) ∷ is_text (192 ∷ 128 ∷ []) ∷ is_text (237 ∷ 160 ∷ 128 ∷ []) ∷ is_text (244 ∷ 144 ∷ 128 ∷ 128 ∷ []) ∷ []
       ≡ true ∷ false ∷ false ∷ false ∷ []

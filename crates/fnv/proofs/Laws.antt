@@ -1,11 +1,8 @@
 -- The hash of a concatenation, a byte at a time, and its range. Assumes nothing.
 use mathlib.Core.Path.{◌≡◌, refl}
 use mathlib.Core.List.{[], ◌∷◌, ◌++◌}
-use Prim.Native.Nat.{ℕ, ◌+◌, ◌*◌, ◌%◌, ◌^◌, ◌<◌, ◌≤◌}
+use Prim.Native.Nat.{ℕ, ◌*◌, ◌%◌, ◌^◌, ◌<◌, ◌≤◌}
 use lib.Bits.{bit_or, bit_xor, and_le_l, and_le_r, or_add_and}
-use lib.ListN.{length, get_or, drop, drop_of_length-le}
-use lib.Seq.{drop-cons}
-use native.Mathlib.Numerals.{add-one}
 use native.Mathlib.Omega.{arith}
 use Rattle.slices.specs.Bytes.{Bytes}
 use Rattle.fnv.specs.Fnv.{fnv_step, fnv_from, fnv_of, bits_from}
@@ -19,15 +16,6 @@ fnv-append (x ∷ a) b h = fnv-append a b (fnv_step h x)
 pub fnv-of-append : (a b : Bytes) → fnv_of (a ++ b) ≡ fnv_from (fnv_of a) b
 unfolding fnv_of
 fnv-of-append a b = fnv-append a b 2166136261
-
--- The byte at i is the next one.
-pub fnv-more : (h i : ℕ) (s : Bytes) → i < length s → fnv_from h (drop i s) ≡ fnv_from (fnv_step h (get_or s i 0)) (drop (i + 1) s)
-unfolding fnv_from
-fnv-more h i s l = rw (add-one, drop-cons s i 0)
-
-pub fnv-end : (h i : ℕ) (s : Bytes) → length s ≤ i → fnv_from h (drop i s) ≡ h
-unfolding fnv_from
-fnv-end h i s l = rw (drop_of_length-le s l)
 
 -- The hash is a number of 32 bits.
 pub fnv-from-lt : (s : Bytes) (h : ℕ) → h < 2 ^ 32 → fnv_from h s < 2 ^ 32
@@ -45,14 +33,6 @@ pub bits-append : (a b : Bytes) (x : ℕ) → bits_from x (a ++ b) ≡ bits_from
 unfolding bits_from
 bits-append [] b x = refl
 bits-append (y ∷ a) b x = bits-append a b (bit_or x y)
-
-pub bits-more : (b i : ℕ) (s : Bytes) → i < length s → bits_from b (drop i s) ≡ bits_from (bit_or b (get_or s i 0)) (drop (i + 1) s)
-unfolding bits_from
-bits-more b i s l = rw (add-one, drop-cons s i 0)
-
-pub bits-end : (b i : ℕ) (s : Bytes) → length s ≤ i → bits_from b (drop i s) ≡ b
-unfolding bits_from
-bits-end b i s l = rw (drop_of_length-le s l)
 
 or-least : (a b : ℕ) → (a ≤ bit_or a b) × (b ≤ bit_or a b)
 or-least a b = (omega (arith, or_add_and a b, and_le_r a b), omega (arith, or_add_and a b, and_le_l a b))

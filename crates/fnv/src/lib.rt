@@ -1,26 +1,27 @@
 // FNV-1a of 32 bits. The hash decides where the search for a stored byte string starts.
 #![tactic(auto)]
 
-ghost use Rattle.std.specs.Prelude.{◌≡◌, ◌*◌, ◌%◌, ◌^◌, ◌<◌};
+ghost use Rattle.std.specs.Prelude.{◌≡◌, ◌*◌, ◌%◌, ◌^◌};
 ghost use Rattle.fnv.specs.Fnv.{fnv_step, fnv_from, fnv_of, bits_from};
 
 // The hash of no bytes.
 pub const START: u32 = 2166136261;
 
-// The product modulo 2^32.
+// The number by which each step multiplies.
+const PRIME: u32 = 16777619;
+
+// The product modulo 2^32. Document 01 names this helper.
 pub fn wrapping_mul(a: u32, b: u32) -> u32
     ensures { result ≡ a * b % 2 ^ 32 }
 {
-    let x = a as u64;
-    let y = b as u64;
-    (x * y % 0x1_0000_0000) as u32
+    a.wrapping_mul(b)
 }
 
 // Extends the hash h by one byte.
 pub fn fnv_step(h: u32, b: u8) -> u32
     ensures { result ≡ fnv_step h b }
 {
-    wrapping_mul(h ^ b as u32, 16777619)
+    wrapping_mul(h ^ u32::from(b), PRIME)
 }
 
 // A hash, and the bitwise or of the bytes. If `bits` is below 0x80, every byte is ASCII, so the bytes are text.
@@ -36,11 +37,9 @@ pub fn scan(start: u32, bits: u8, s: &[u8]) -> Scanned
 {
     let mut h = start;
     let mut seen = bits;
-    let mut i = 0;
-    while i < s.len() {
-        h = fnv_step(h, s[i]);
-        seen |= s[i];
-        i += 1;
+    for &b in s {
+        h = fnv_step(h, b);
+        seen |= b;
     }
     Scanned { h, bits: seen }
 }
@@ -49,8 +48,7 @@ pub fn scan(start: u32, bits: u8, s: &[u8]) -> Scanned
 pub fn fnv_from(start: u32, s: &[u8]) -> u32
     ensures { result ≡ fnv_from start s.now }
 {
-    let x = scan(start, 0, s);
-    x.h
+    scan(start, 0, s).h
 }
 
 // The hash of a byte string.

@@ -1,25 +1,25 @@
 -- Which memory is a dictionary's, judged by its header. Assumes nothing.
-use Rattle.std.specs.Prelude.{ℕ, ◌<◌, ◌≤◌, ◌≡◌, true, false, not, cond, eqb, ltb, length, replicate}
+use Rattle.std.specs.Prelude.{ℕ, ◌<◌, ◌≤◌, ◌≡◌, true, false, not, cond, eqb, ltb, length, replicate, Result, Ok, Err}
 use Rattle.slices.specs.Bytes.{Bytes}
 use Rattle.words.specs.Words.{word_at}
 use Rattle.layout.specs.declared.Sizes.{Sizes}
 use Rattle.layout.specs.Sizes.{in_range, page_bytes, list_bytes}
 use Rattle.layout.specs.Fields.{format}
-use Rattle.header.specs.declared.Header.{Header}
-use Rattle.header.specs.declared.Header.TheVariants.{Opened, Unopened}
+use Rattle.refusals.specs.declared.Refusal.{Refusal}
+use Rattle.refusals.specs.declared.Refusal.TheVariants.{Unopened}
 
 -- The sizes that are written in `lists`.
 abbrev pub sizes_in : Bytes → Sizes
 sizes_in lists = record { p = word_at lists 1; n = word_at lists 2; e = word_at lists 3; w = word_at lists 4; b = word_at lists 5 }
 
 -- What the check of the header answers. `pages` is the length of the pages.
-unfoldable pub header_of : ℕ → Bytes → Header
+unfoldable pub header_of : ℕ → Bytes → Result Sizes Refusal
 header_of pages lists =
-    cond (ltb (length lists) 512) Unopened
-    (cond (not (eqb (word_at lists 0) format)) Unopened
-    (cond (not (in_range (sizes_in lists))) Unopened
-    (cond (ltb pages (page_bytes (sizes_in lists))) Unopened
-    (cond (ltb (length lists) (list_bytes (sizes_in lists))) Unopened (Opened (sizes_in lists))))))
+    cond (ltb (length lists) 512) (Err Unopened)
+    (cond (not (eqb (word_at lists 0) format)) (Err Unopened)
+    (cond (not (in_range (sizes_in lists))) (Err Unopened)
+    (cond (ltb pages (page_bytes (sizes_in lists))) (Err Unopened)
+    (cond (ltb (length lists) (list_bytes (sizes_in lists))) (Err Unopened) (Ok (sizes_in lists))))))
 
 -- The cases in which document 01 always requires refusal 3.
 pub data AlwaysUnopened (pages lists : Bytes) : Type 0 where

@@ -23,7 +23,8 @@ pub enum Way {
     Pairs,
 }
 
-// What the table says of a kind: may it have a second part, must it have a tag, the dictionaries of its heads and of its names, its way.
+// What the table says of a kind: must it have no second part, must it have a tag, the dictionaries of its heads and of its names, its way.
+// Kept: two flags. Each is a column of the table, and no value goes with it.
 #[derive(Clone, Copy)]
 pub struct Row {
     pub no_second: bool,
@@ -37,39 +38,35 @@ pub struct Row {
 pub fn row_of(kind: usize) -> Row
     ensures { IsRow (row kind) result }
 {
-    if kind == IRI {
-        return Row {
+    match kind {
+        IRI => Row {
             no_second: true,
             needs_tag: false,
             heads: 0,
             main: 1,
             way: Way::Splits,
-        };
-    }
-    if kind == TAGGED {
-        return Row {
+        },
+        TAGGED => Row {
             no_second: false,
             needs_tag: true,
             heads: 3,
             main: 3,
             way: Way::Packs,
-        };
-    }
-    if kind == TYPED {
-        return Row {
+        },
+        TYPED => Row {
             no_second: false,
             needs_tag: false,
             heads: 4,
             main: 5,
             way: Way::Pairs,
-        };
-    }
-    Row {
-        no_second: true,
-        needs_tag: false,
-        heads: 2,
-        main: 2,
-        way: Way::Whole,
+        },
+        _ => Row {
+            no_second: true,
+            needs_tag: false,
+            heads: 2,
+            main: 2,
+            way: Way::Whole,
+        },
     }
 }
 
@@ -91,37 +88,22 @@ pub fn head_dictionary(kind: usize) -> usize
 pub fn is_split(kind: usize) -> bool
     ensures { result ≡ is_split (row kind).way }
 {
-    let way = row_of(kind).way;
-    match way {
-        Way::Splits => true,
-        Way::Whole => false,
-        Way::Packs => false,
-        Way::Pairs => false,
-    }
+    matches!(row_of(kind).way, Way::Splits)
 }
 
 // Do the kind's names have heads?
 pub fn has_heads(kind: usize) -> bool
     ensures { result ≡ (row kind).paired }
 {
-    let way = row_of(kind).way;
-    match way {
-        Way::Splits => true,
-        Way::Whole => false,
-        Way::Packs => false,
-        Way::Pairs => true,
-    }
+    matches!(row_of(kind).way, Way::Splits | Way::Pairs)
 }
 
 // How the second part of a kind without heads is stored in front of the first: a tag in its form. A plain string has none.
 pub fn front_mode(kind: usize) -> Mode
     ensures { result ≡ front_mode (row kind).way }
 {
-    let way = row_of(kind).way;
-    match way {
-        Way::Splits => Mode::Raw,
-        Way::Whole => Mode::Raw,
+    match row_of(kind).way {
         Way::Packs => Mode::Tag,
-        Way::Pairs => Mode::Raw,
+        Way::Splits | Way::Whole | Way::Pairs => Mode::Raw,
     }
 }

@@ -10,7 +10,7 @@ use lib.Dec.{leb}
 use lib.Pow.{pow_mono}
 use Rattle.slices.proofs.Tests.{Split, split, and_left, and_right}
 use Rattle.layout.specs.declared.Sizes.{Sizes}
-use Rattle.layout.specs.declared.Made.TheVariants.{Fit, BadSize}
+use Rattle.std.specs.Prelude.{Some, None}
 use Rattle.layout.specs.Sizes.{within, in_range, InRange, made, name_limit, limit, page_size, page_bytes}
 
 pub within-facts : (lo hi x : ℕ) → within lo hi x ≡ true → (lo ≤ x) × (x ≤ hi)
@@ -45,20 +45,20 @@ in-range s h =
     (facts-within 1 4096 s.b h.b.0 h.b.1)
 
 -- What the constructor of the sizes answered says of them.
-pub made-fit : (s t : Sizes) → made s ≡ Fit t → (s ≡ t) × (in_range s ≡ true)
+pub made-fit : (s t : Sizes) → made s ≡ Some t → (s ≡ t) × (in_range s ≡ true)
 unfolding made
 made-fit s t e = go (split (in_range s))
   where
     go : Split (in_range s) → (s ≡ t) × (in_range s ≡ true)
-    go (inl p) = let q : Fit s ≡ Fit t = rw p at e in (cc, p)
-    go (inr p) = let q : BadSize ≡ Fit t = rw p at e in let z : ◌≡◌ {A = ℕ} 0 1 = cc in absurd (omega arith)
+    go (inl p) = let q : Some s ≡ Some t = rw p at e in (cc, p)
+    go (inr p) = let q : None ≡ Some t = rw p at e in let z : ◌≡◌ {A = ℕ} 0 1 = cc in absurd (omega arith)
 
-pub made-bad : (s : Sizes) → made s ≡ BadSize → in_range s ≡ false
+pub made-bad : (s : Sizes) → made s ≡ None → in_range s ≡ false
 unfolding made
 made-bad s e = go (split (in_range s))
   where
     go : Split (in_range s) → in_range s ≡ false
-    go (inl p) = let q : Fit s ≡ BadSize = rw p at e in let z : ◌≡◌ {A = ℕ} 0 1 = cc in absurd (omega arith)
+    go (inl p) = let q : Some s ≡ None = rw p at e in let z : ◌≡◌ {A = ℕ} 0 1 = cc in absurd (omega arith)
     go (inr p) = p
 
 -- A page has 2^13 to 2^20 bytes.

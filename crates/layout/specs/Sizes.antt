@@ -1,9 +1,7 @@
 -- The sizes of a dictionary's memory, their ranges, and how long its names may be, by document 01. Assumes nothing.
-use Rattle.std.specs.Prelude.{ℕ, ◌+◌, ◌*◌, ◌^◌, ◌≤◌, ◌≡◌, refl, Bool, ◌&&◌, cond}
+use Rattle.std.specs.Prelude.{ℕ, ◌+◌, ◌*◌, ◌^◌, ◌≤◌, ◌≡◌, refl, Bool, ◌&&◌, cond, Option, Some, None}
 pub use Rattle.slices.specs.Ranges.{within}
 use Rattle.layout.specs.declared.Sizes.{Sizes}
-use Rattle.layout.specs.declared.Made.{Made}
-use Rattle.layout.specs.declared.Made.TheVariants.{Fit, BadSize}
 
 -- Page width p, pages n, list length e, block width w, blocks b.
 unfoldable pub in_range : Sizes → Bool
@@ -17,8 +15,8 @@ pub record InRange (s : Sizes) : Type 0 where
   pub w : (4 ≤ s.w) × (s.w ≤ 24)
   pub b : (1 ≤ s.b) × (s.b ≤ 4096)
 
-unfoldable pub made : Sizes → Made
-made s = cond (in_range s) (Fit s) BadSize
+unfoldable pub made : Sizes → Option Sizes
+made s = cond (in_range s) (Some s) None
 
 -- The most bytes of a name, both parts together, and of a packed form.
 unfoldable pub name_limit : ℕ

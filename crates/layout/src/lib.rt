@@ -54,19 +54,10 @@ pub struct Sizes {
     pub b: usize,
 }
 
-#[derive(Clone, Copy)]
-pub enum Made {
-    Fit(Sizes),
-    BadSize,
-}
-
 fn is_within(lo: usize, hi: usize, x: usize) -> bool
     ensures { result ≡ within lo hi x }
 {
-    if x < lo {
-        return false;
-    }
-    x <= hi
+    (lo..=hi).contains(&x)
 }
 
 impl Sizes {
@@ -96,25 +87,18 @@ impl Sizes {
     pub const PACKED_LIMIT: usize = 8002;
 
     // The sizes, if each is in its range.
-    pub fn new(p: usize, n: usize, e: usize, w: usize, b: usize) -> Made
+    pub fn new(p: usize, n: usize, e: usize, w: usize, b: usize) -> Option<Sizes>
         ensures { result ≡ made (record { p = p; n = n; e = e; w = w; b = b }) }
     {
-        if !is_within(Sizes::P_LEAST, Sizes::P_MOST, p) {
-            return Made::BadSize;
+        if is_within(Sizes::P_LEAST, Sizes::P_MOST, p)
+            && is_within(Sizes::N_LEAST, Sizes::N_MOST, n)
+            && is_within(Sizes::E_LEAST, Sizes::E_MOST, e)
+            && is_within(Sizes::W_LEAST, Sizes::W_MOST, w)
+            && is_within(Sizes::B_LEAST, Sizes::B_MOST, b)
+        {
+            return Some(Sizes { p, n, e, w, b });
         }
-        if !is_within(Sizes::N_LEAST, Sizes::N_MOST, n) {
-            return Made::BadSize;
-        }
-        if !is_within(Sizes::E_LEAST, Sizes::E_MOST, e) {
-            return Made::BadSize;
-        }
-        if !is_within(Sizes::W_LEAST, Sizes::W_MOST, w) {
-            return Made::BadSize;
-        }
-        if !is_within(Sizes::B_LEAST, Sizes::B_MOST, b) {
-            return Made::BadSize;
-        }
-        Made::Fit(Sizes { p, n, e, w, b })
+        None
     }
 
     // The most bytes of a name in a dictionary with these sizes.

@@ -1,16 +1,15 @@
 -- The numbers of the exported leaf rules tell a rule's answers apart: the answer comes back from them. Assumes nothing.
+use Prim.Native.Nat.{ℕ}
 use mathlib.Core.Path.{◌≡◌, refl, ap}
 use mathlib.Core.Bool.{Bool, true, false}
+use Rattle.std.specs.Prelude.{Result, Ok, Err}
 use Rattle.slices.specs.Bytes.{Bytes}
-use Rattle.refusals.specs.declared.Written.{Written}
-use Rattle.refusals.specs.declared.Written.TheVariants as W
+use Rattle.refusals.specs.declared.Refusal.{Refusal}
 use Rattle.refusals.proofs.Back.{refusal-back}
 use Rattle.ranked_pair_dictionary.specs.declared.FrequentId.{FrequentId}
-use Rattle.ranked_pair_dictionary.specs.declared.FrequentId.TheVariants as F
 use Rattle.ranked_pair_iri_dv_dict.specs.Split.{head_from, head_of, length_of}
 use Rattle.ranked_pair_iri_dv_dict.proofs.Laws.{head-length}
-use Rattle.string_dv_dict_unpack.specs.declared.Unpacked.{Unpacked}
-use Rattle.string_dv_dict_unpack.specs.declared.Unpacked.TheVariants as U
+use Rattle.string_dv_dict_unpack.specs.declared.Lengths.{Lengths}
 use Rattle.leaf_numbers.specs.Numbers.{yes_no, written_numbers, value_numbers, unpacked_numbers}
 use Rattle.leaf_numbers.specs.Answers.{yes_of, written_of, value_of, unpacked_of}
 
@@ -25,15 +24,15 @@ unfolding head_of
 head-back iri = ap head_from (head-length iri)
 
 -- Writing a frequent id, and packing.
-pub written_back : (x : Written) → written_of (written_numbers x) ≡ x
-written_back (W.Length n) = refl
-written_back (W.Refused why) = rw (refusal-back why).1 (ap W.Refused (refusal-back why).0)
+pub written_back : (x : Result ℕ Refusal) → written_of (written_numbers x) ≡ x
+written_back (Ok n) = refl
+written_back (Err why) = rw (refusal-back why).1 (ap Err (refusal-back why).0)
 
 -- Reading a frequent id.
-pub value-back : (x : FrequentId) → value_of (value_numbers x) ≡ x
-value-back (F.Value v n) = refl
-value-back (F.Refused why) = rw (refusal-back why).1 (ap F.Refused (refusal-back why).0)
+pub value-back : (x : Result FrequentId Refusal) → value_of (value_numbers x) ≡ x
+value-back (Ok x) = refl
+value-back (Err why) = rw (refusal-back why).1 (ap Err (refusal-back why).0)
 
-pub unpacked-back : (x : Unpacked) → unpacked_of (unpacked_numbers x) ≡ x
-unpacked-back (U.Lengths m n) = refl
-unpacked-back (U.Refused why) = rw (refusal-back why).1 (ap U.Refused (refusal-back why).0)
+pub unpacked-back : (x : Result Lengths Refusal) → unpacked_of (unpacked_numbers x) ≡ x
+unpacked-back (Ok x) = refl
+unpacked-back (Err why) = rw (refusal-back why).1 (ap Err (refusal-back why).0)

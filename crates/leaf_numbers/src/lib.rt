@@ -6,11 +6,11 @@ ghost use Rattle.ranked_pair_iri_dv_dict.specs.Split.{length_of};
 ghost use Rattle.leaf_numbers.specs.Numbers.{yes_no, written_numbers, value_numbers, unpacked_numbers};
 
 use ranked_pair_dictionary::FrequentId;
-use ranked_pair_iri_dv_dict::Head;
-use refusals::Written;
-use string_dv_dict_unpack::Unpacked;
+use refusals::Refusal;
+use string_dv_dict_unpack::Lengths;
 
 // What packing and writing a frequent id return.
+// Kept: the C interface returns structs of numbers, here and below.
 #[repr(C)]
 #[derive(Clone, Copy)]
 pub struct NamedictWritten {
@@ -40,64 +40,67 @@ pub struct NamedictUnpacked {
 pub fn yes_no(answer: bool) -> u64
     ensures { result ≡ yes_no answer }
 {
-    if answer { 1 } else { 0 }
+    u64::from(answer)
 }
 
 // The length of a head, 0 for none.
-pub fn head_number(answer: Head) -> u64
+pub fn head_number(answer: Option<usize>) -> u64
     ensures { result ≡ length_of answer }
 {
-    match answer {
-        Head::Length(n) => n as u64,
-        Head::Nothing => 0,
+    answer.unwrap_or(0) as u64
+}
+
+impl From<Result<usize, Refusal>> for NamedictWritten {
+    ghost from_gives = { λ answer r. r ≡ written_numbers answer };
+
+    fn from(answer: Result<usize, Refusal>) -> NamedictWritten {
+        match answer {
+            Ok(n) => NamedictWritten {
+                refusal: 0,
+                length: n as u64,
+            },
+            Err(why) => NamedictWritten {
+                refusal: u64::from(why),
+                length: 0,
+            },
+        }
     }
 }
 
-pub fn written_numbers(answer: Written) -> NamedictWritten
-    ensures { result ≡ written_numbers answer }
-{
-    match answer {
-        Written::Length(n) => NamedictWritten {
-            refusal: 0,
-            length: n as u64,
-        },
-        Written::Refused(why) => NamedictWritten {
-            refusal: refusals::number(why),
-            length: 0,
-        },
+impl From<Result<FrequentId, Refusal>> for NamedictValue {
+    ghost from_gives = { λ answer r. r ≡ value_numbers answer };
+
+    fn from(answer: Result<FrequentId, Refusal>) -> NamedictValue {
+        match answer {
+            Ok(FrequentId { value, length }) => NamedictValue {
+                refusal: 0,
+                value: value as u64,
+                length: length as u64,
+            },
+            Err(why) => NamedictValue {
+                refusal: u64::from(why),
+                value: 0,
+                length: 0,
+            },
+        }
     }
 }
 
-pub fn value_numbers(answer: FrequentId) -> NamedictValue
-    ensures { result ≡ value_numbers answer }
-{
-    match answer {
-        FrequentId::Value { value, length } => NamedictValue {
-            refusal: 0,
-            value: value as u64,
-            length: length as u64,
-        },
-        FrequentId::Refused(why) => NamedictValue {
-            refusal: refusals::number(why),
-            value: 0,
-            length: 0,
-        },
-    }
-}
+impl From<Result<Lengths, Refusal>> for NamedictUnpacked {
+    ghost from_gives = { λ answer r. r ≡ unpacked_numbers answer };
 
-pub fn unpacked_numbers(answer: Unpacked) -> NamedictUnpacked
-    ensures { result ≡ unpacked_numbers answer }
-{
-    match answer {
-        Unpacked::Lengths { text, tag } => NamedictUnpacked {
-            refusal: 0,
-            text_len: text as u64,
-            tag_len: tag as u64,
-        },
-        Unpacked::Refused(why) => NamedictUnpacked {
-            refusal: refusals::number(why),
-            text_len: 0,
-            tag_len: 0,
-        },
+    fn from(answer: Result<Lengths, Refusal>) -> NamedictUnpacked {
+        match answer {
+            Ok(Lengths { text, tag }) => NamedictUnpacked {
+                refusal: 0,
+                text_len: text as u64,
+                tag_len: tag as u64,
+            },
+            Err(why) => NamedictUnpacked {
+                refusal: u64::from(why),
+                text_len: 0,
+                tag_len: 0,
+            },
+        }
     }
 }

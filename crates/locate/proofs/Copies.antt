@@ -12,21 +12,21 @@ use Rattle.locate.specs.Located.{unescaped_if, pieces_in, Copyable}
 use Rattle.locate.proofs.Cuts.{length_cut}
 
 abbrev pub front_of : Bytes → Pieces → Bytes
-front_of pages x = take x.front_len (drop x.front_at pages)
+front_of pages x = take x.front.len (drop x.front.at pages)
 
 abbrev pub back_of : Bytes → Pieces → Bytes
-back_of pages x = unescaped_if x.escaped (take x.back_len (drop x.back_at pages))
+back_of pages x = unescaped_if x.escaped (take x.back.len (drop x.back.at pages))
 
 module _ (pages : Bytes) (x : Pieces) (W : Copyable pages x) where
-  pub front_length : length (front_of pages x) ≡ x.front_len
-  front_length = length_cut pages x.front_at x.front_len W.front
+  pub front_length : length (front_of pages x) ≡ x.front.len
+  front_length = length_cut pages x.front.at x.front.len W.front
 
   pub both-lengths : length (front_of pages x) + length (back_of pages x) ≡ x.first + x.second
   unfolding pieces_in
   both-lengths = sym (length-append (front_of pages x) (back_of pages x)) ∙ W.lengths
 
   pub copied : (b : Bytes) → x.first + x.second ≤ length b
-      → sets (sets b 0 (front_of pages x)) x.front_len (back_of pages x) ≡ pieces_in pages x ++ drop (x.first + x.second) b
+      → sets (sets b 0 (front_of pages x)) x.front.len (back_of pages x) ≡ pieces_in pages x ++ drop (x.first + x.second) b
   unfolding pieces_in
   copied b h =
       ap (λ n. sets (sets b 0 (front_of pages x)) n (back_of pages x)) (sym front_length)

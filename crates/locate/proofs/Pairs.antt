@@ -1,5 +1,5 @@
 -- An entry that is a head's frequent id and the rest: what its reading says of the name. Assumes nothing.
-use Prim.Native.Nat.{ℕ, ◌+◌, ◌-◌, ◌/◌, ◌<◌, ◌≤◌}
+use Prim.Native.Nat.{ℕ, ◌+◌, ◌-◌, ◌/◌, ◌%◌, ◌<◌, ◌≤◌}
 use mathlib.Core.Path.{◌≡◌, refl, sym, ap, subst, ◌∙◌}
 use mathlib.Core.Logic.{◌⊎◌, inl, inr}
 use mathlib.Core.Bool.{true, false, ◌&&◌, cond, false≢true}
@@ -10,18 +10,19 @@ use lib.Dec.{leb}
 use lib.ListN.{length, take, drop, length-append, take-append-drop}
 use lib.Seq.{drop_at}
 use borrow.Author.Tests.{leb-true}
+use Rattle.std.specs.Prelude.{Some, None, Ok, Err}
 use Rattle.slices.specs.Bytes.{Bytes}
 use Rattle.slices.proofs.Tests.{Split, split}
 use Rattle.refusals.specs.declared.Refusal.{Refusal}
-use Rattle.ranked_pair_dictionary.specs.declared.FrequentId.TheVariants.{Value, Refused}
-use Rattle.ranked_pair_dictionary.specs.FrequentId.{fid, read_further, read_fid_answer}
+use Rattle.refusals.specs.declared.Refusal.TheVariants.{Unopened}
+use Rattle.ranked_pair_dictionary.specs.declared.FrequentId.{FrequentId}
+use Rattle.ranked_pair_dictionary.specs.FrequentId.{of_be, fid, read_as, read_further, read_fid_answer}
 use Rattle.ranked_pair_dictionary.proofs.Laws.{fid-read}
 use Rattle.ranked_pair_iri_dv_dict.specs.Split.{head_length}
 use Rattle.layout.specs.declared.Sizes.{Sizes}
 use Rattle.layout.specs.Sizes.{kinds, page_bytes}
-use Rattle.bytes_dictionary.specs.declared.Lookup.{Lookup}
-use Rattle.bytes_dictionary.specs.declared.Lookup.TheVariants as K
-use Rattle.bytes_dictionary.specs.Reading.{Gives, Looked}
+use Rattle.bytes_index.specs.declared.Span.{Span}
+use Rattle.bytes_dictionary.specs.Reading.{Lookup, Gives, Looked}
 use Rattle.model.specs.Names.{Name}
 use Rattle.model.specs.Kinds.{Way, splits, whole, packs, pairs, has_heads, head_by, rest_by, row}
 use Rattle.model.specs.State.{State, entry_number}
@@ -33,24 +34,21 @@ use Rattle.model.proofs.Parts.{is_some}
 use Rattle.kind_table.specs.Rows.{is_split}
 use Rattle.memory.specs.Stands.{Stands}
 use Rattle.memory.proofs.Named.{head-entry}
-use Rattle.locate.specs.declared.Located.TheVariants.{At, Bad}
 use Rattle.locate.specs.Located.{pieces_in, LocatesEntry}
 use Rattle.locate.proofs.Cuts.{length_cut, cut-behind}
 
 -- A frequent id that was read lies in the bytes.
-pub read_fits : (b : Bytes) (v n : ℕ) → read_fid_answer b ≡ Value v n → n ≤ length b
+pub read_fits : (b : Bytes) (x : FrequentId) → read_fid_answer b ≡ Ok x → x.length ≤ length b
 unfolding read_fid_answer read_further
-read_fits [] v n e = let z : ◌≡◌ {A = ℕ} 0 1 = cc in absurd (omega arith)
-read_fits (x ∷ b) v n e = go (split (leb (x / 64) (length b)))
+read_fits [] x e = absurd (cc e)
+read_fits (c ∷ b) x e = go (split (leb (c / 64) (length b)))
   where
-    go : Split (leb (x / 64) (length b)) → n ≤ length (x ∷ b)
+    go : Split (leb (c / 64) (length b)) → x.length ≤ length (c ∷ b)
     go (inl p) =
         let u = rw p at e in
-        let w : x / 64 + 1 ≡ n = cc in
-        omega (arith, leb-true (x / 64) (length b) p)
-    go (inr p) =
-        let u = rw p at e in
-        let z : ◌≡◌ {A = ℕ} 0 1 = cc in absurd (omega arith)
+        let w : record { value = of_be (c % 64) (take (c / 64) b); length = c / 64 + 1 } ≡ x = cc u in
+        omega (arith, ap (λ (y : FrequentId). y.length) w, leb-true (c / 64) (length b) p)
+    go (inr p) = absurd (cc (rw p at e))
 
 -- How many bytes of the rest belong to the first part: all where the first part splits, and else none.
 abbrev pub Moved : Way → ℕ → ℕ → Type 0
@@ -79,10 +77,10 @@ module _ (s : Sizes) (a : Name) (passes : checks s a ≡ none) where
   joined pairs v pair m (inr h) = rw h.1 (refl, omega arith, omega arith)
 
 -- A lookup that names no part gives no key.
-no_part : (pages key : Bytes) (r : Lookup) → ((at len : ℕ) → r ≡ K.At at len → ⊥) → Gives pages (some key) r → ⊥
-no_part pages key (K.At at len) p g = p at len refl
-no_part pages key K.Nothing p g = g
-no_part pages key K.Bad p g = g
+no_part : (pages key : Bytes) (r : Lookup) → ((x : Span) → r ≡ Ok (Some x) → ⊥) → Gives pages (some key) r → ⊥
+no_part pages key (Ok (Some x)) p g = p x refl
+no_part pages key (Ok None) p g = g
+no_part pages key (Err why) p g = g
 
 module _ (s : Sizes) (pages lists : Bytes) (k at len : ℕ) (known : k < kinds) (pair : (row k).paired ≡ true)
     (there : page_bytes s ≤ length pages) (fits : at + len ≤ page_bytes s) where
@@ -91,7 +89,7 @@ module _ (s : Sizes) (pages lists : Bytes) (k at len : ℕ) (known : k < kinds) 
     f : ℕ
     stored : entry_number ((row k).head a) (st.part k).heads ≡ some f
     bytes : take len (drop at pages) ≡ fid f ++ (row k).rest a
-    reads : read_fid_answer (take len (drop at pages)) ≡ Value f (length (fid f))
+    reads : read_fid_answer (take len (drop at pages)) ≡ read_as f (length (fid f))
 
   begins : (st : State) (a : Name) → Stands s st pages lists → a.kind ≡ k → new_head a (st.part k) ≡ false
       → take len (drop at pages) ≡ key_of (st.part k).heads a
@@ -112,49 +110,47 @@ module _ (s : Sizes) (pages lists : Bytes) (k at len : ℕ) (known : k < kinds) 
         reads = ap read_fid_answer b ∙ fid-read h.0 ((row k).rest a) (omega (arith, low, (S.good.part k).few_heads, S.good.sizes.e));
       }
 
-  -- The lookup of the head whose number was read.
-  head-given : (st : State) (a : Name) → Stands s st pages lists → Begins a st → (v n : ℕ) → read_fid_answer (take len (drop at pages)) ≡ Value v n
-      → (r : Lookup) → Looked s (row k).heads_at v lists r → Gives pages (some ((row k).head a)) r
-  head-given st a S B v n e r look =
-      let u : Value v n ≡ Value B.f (length (fid B.f)) = sym e ∙ B.reads in
-      let w : v ≡ B.f = cc in
-      let h : S.store.entries (row k).heads_at v ≡ some ((row k).head a) = rw w (head-entry s st pages lists S k known pair B.f ((row k).head a) B.stored) in
-      rw h at (look.right pages S.store there S.stored)
+  -- The frequent id that was read is that of the head.
+  same-lead : {a : Name} {st : State} (B : Begins a st) (x : FrequentId) → read_fid_answer (take len (drop at pages)) ≡ Ok x
+      → x ≡ record { value = B.f; length = length (fid B.f) }
+  same-lead B x e = cc (sym e ∙ B.reads)
 
-  pub bad-lead : (why : Refusal) → read_fid_answer (take len (drop at pages)) ≡ Refused why → LocatesEntry s pages lists k at len Bad
-  bad-lead why e =
-      record {
-        range = tt;
-        right = λ st a S p q old h.
-            let u : Refused why ≡ Value (begins st a S q old h).f (length (fid (begins st a S q old h).f)) = sym e ∙ (begins st a S q old h).reads in
-            let z : ◌≡◌ {A = ℕ} 0 1 = cc in absurd (omega arith);
-      }
+  pub bad-lead : (why : Refusal) → read_fid_answer (take len (drop at pages)) ≡ Err why → LocatesEntry s pages lists k at len (Err Unopened)
+  bad-lead why e = record { range = refl; right = λ st a S p q old h. absurd (cc (sym e ∙ (begins st a S q old h).reads)) }
 
-  module _ (v n : ℕ) (e : read_fid_answer (take len (drop at pages)) ≡ Value v n) where
-    pub bad-head : (r : Lookup) → ((at len : ℕ) → r ≡ K.At at len → ⊥) → Looked s (row k).heads_at v lists r
-        → LocatesEntry s pages lists k at len Bad
+  module _ (x : FrequentId) (e : read_fid_answer (take len (drop at pages)) ≡ Ok x) where
+    -- The lookup of the head whose number was read.
+    head-given : (st : State) (a : Name) → Stands s st pages lists → Begins a st → (r : Lookup) → Looked s (row k).heads_at x.value lists r
+        → Gives pages (some ((row k).head a)) r
+    head-given st a S B r look =
+        let w : x.value ≡ B.f = ap (λ (y : FrequentId). y.value) (same-lead B x e) in
+        let h : S.store.entries (row k).heads_at x.value ≡ some ((row k).head a) =
+        rw w (head-entry s st pages lists S k known pair B.f ((row k).head a) B.stored) in
+        rw h at (look.right pages S.store there S.stored)
+
+    pub bad-head : (r : Lookup) → ((x : Span) → r ≡ Ok (Some x) → ⊥) → Looked s (row k).heads_at x.value lists r
+        → LocatesEntry s pages lists k at len (Err Unopened)
     bad-head r t look =
-        record { range = tt; right = λ st a S p q old h. no_part pages ((row k).head a) r t (head-given st a S (begins st a S q old h) v n e r look) }
+        record { range = refl; right = λ st a S p q old h. no_part pages ((row k).head a) r t (head-given st a S (begins st a S q old h) r look) }
 
-    pub lead-within : n ≤ len
-    lead-within = omega (arith, read_fits (take len (drop at pages)) v n e, length_cut pages at len (omega arith))
+    pub lead-within : x.length ≤ len
+    lead-within = omega (arith, read_fits (take len (drop at pages)) x e, length_cut pages at len (omega arith))
 
-    pub located-pair : (from size m : ℕ) → Looked s (row k).heads_at v lists (K.At from size) → Moved (row k).way (len - n) m
-        → LocatesEntry s pages lists k at len (At (record {
+    pub located-pair : (head : Span) (m : ℕ) → Looked s (row k).heads_at x.value lists (Ok (Some head)) → Moved (row k).way (len - x.length) m
+        → LocatesEntry s pages lists k at len (Ok (record {
           kind = k;
-          first = size + m;
-          second = len - n - m;
-          front_at = from;
-          front_len = size;
-          back_at = at + n;
-          back_len = len - n;
+          first = head.len + m;
+          second = len - x.length - m;
+          front = head;
+          back = record { at = at + x.length; len = len - x.length };
           escaped = false;
         }))
     unfolding pieces_in
-    located-pair from size m look M =
+    located-pair head m look M =
+        let n = x.length in
         let low : m ≤ len - n = moved-le (row k).way (len - n) m M in
         let inner : n ≤ len = lead-within in
-        let lf : length (take size (drop from pages)) ≡ size = length_cut pages from size (omega (arith, look.inside)) in
+        let lf : length (take head.len (drop head.at pages)) ≡ head.len = length_cut pages head.at head.len (omega (arith, look.inside)) in
         let lb : length (take (len - n) (drop (at + n) pages)) ≡ len - n = length_cut pages (at + n) (len - n) (omega arith) in
         record {
           range = record {
@@ -166,9 +162,8 @@ module _ (s : Sizes) (pages lists : Bytes) (k at len : ℕ) (known : k < kinds) 
           };
           right = λ st a S p q old h.
               let B = begins st a S q old h in
-              let u : Value v n ≡ Value B.f (length (fid B.f)) = sym e ∙ B.reads in
-              let w : length (fid B.f) ≡ n = cc in
-              let front : take size (drop from pages) ≡ (row k).head a = head-given st a S B v n e (K.At from size) look in
+              let w : length (fid B.f) ≡ n = sym (ap (λ (y : FrequentId). y.length) (same-lead B x e)) in
+              let front : take head.len (drop head.at pages) ≡ (row k).head a = head-given st a S B (Ok (Some head)) look in
               let back : take (len - n) (drop (at + n) pages) ≡ (row k).rest a =
               cut-behind pages at len (omega arith) n inner ∙ ap (drop n) B.bytes ∙ drop_at (fid B.f) ((row k).rest a) n w in
               let r : len - n ≡ length ((row k).rest a) = sym lb ∙ ap length back in

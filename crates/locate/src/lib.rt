@@ -1,171 +1,167 @@
 // Where the name of a number lies in the pages, and its copy into a buffer. The memory may hold any bytes: every number read from it is tested.
 #![tactic(auto)]
 
-ghost use Rattle.std.specs.Prelude.{◌≡◌, true, ◌++◌, ◌+◌, ◌≤◌, ◌<◌, length, drop};
+ghost use Rattle.std.specs.Prelude.{◌≡◌, true, ◌++◌, ◌+◌, ◌^◌, ◌≤◌, ◌<◌, length, drop, Ok};
 ghost use Rattle.std.proofs.lemmas.List.Edits.{sets};
 ghost use Rattle.slices.specs.Bytes.{Bytes};
 ghost use Rattle.layout.specs.Sizes.{InRange, kinds, page_bytes, list_bytes};
 ghost use Rattle.model.specs.Kinds.{whole, packs, row};
-ghost use Rattle.locate.specs.Located.{unescaped_if, pieces_in, Copyable, LocatesEntry, LocatesAlone, LocatesName};
+ghost use Rattle.locate.specs.Located.{unescaped_if, tagged_pieces, pieces_in, Copyable, LocatesEntry, LocatesAlone, LocatesName};
 
-use bytes_dictionary::{EntryId, Lookup};
+use bytes_dictionary::EntryId;
+use bytes_index::Span;
 use kind_table::Way;
 use layout::Sizes;
 use meta_dv_dict::{GlobalId, Owner};
-use parts::Mode;
+use parts::Part;
 use ranked_pair_dictionary::FrequentId;
+use refusals::Refusal;
 use string_dv_dict_split::Form;
 
 // A name in the pages: its kind, the lengths of its parts, and two pieces whose bytes are the first part, then the second. An IRI and a typed value have head
 // and rest as pieces, a plain string has itself and nothing, a tagged string has text and tag. A long tag is escaped.
+// Kept: `escaped` is a flag. It says how the second piece is read, and no value goes with it.
 #[derive(Clone, Copy)]
 pub struct Pieces {
     pub kind: usize,
     pub first: usize,
     pub second: usize,
-    pub front_at: usize,
-    pub front_len: usize,
-    pub back_at: usize,
-    pub back_len: usize,
+    pub front: Span,
+    pub back: Span,
     pub escaped: bool,
 }
 
-// Nothing: no name has the number. Bad: the memory is no dictionary's.
-#[derive(Clone, Copy)]
-pub enum Located {
-    At(Pieces),
-    Nothing,
-    Bad,
-}
-
-// Where a name lies whose entry is a head's frequent id and the rest.
-fn locate_pair(pages: &[u8], lists: &[u8], s: Sizes, k: usize, at: usize, len: usize) -> Located
+// Where a name lies whose entry is a head's frequent id and the rest. Unopened: the memory is no dictionary's.
+fn locate_pair(
+    pages: &[u8],
+    lists: &[u8],
+    s: Sizes,
+    k: usize,
+    entry: Span,
+) -> Result<Pieces, Refusal>
     requires in_range { InRange s × (page_bytes s ≤ length pages.now) × (list_bytes s ≤ length lists.now) }
-    requires k_lt_kinds { (k < kinds) × ((row k).paired ≡ true) × (at + len ≤ page_bytes s) }
-    ensures { LocatesEntry s pages.now lists.now k at len result }
+    requires k_lt_kinds { (k < kinds) × ((row k).paired ≡ true) × (entry.at + entry.len ≤ page_bytes s) }
+    ensures { LocatesEntry s pages.now lists.now k entry.at entry.len result }
 {
-    let lead = ranked_pair_dictionary::read_frequent_id(bytes_dictionary::id_to_bytes(
-        pages, at, len,
-    ));
-    let FrequentId::Value { value, length } = lead else {
-        return Located::Bad;
+    let stored = bytes_dictionary::id_to_bytes(pages, entry);
+    let Ok(FrequentId { value, length }) = ranked_pair_dictionary::read_frequent_id(stored) else {
+        return Err(Refusal::Unopened);
     };
-    let head = bytes_dictionary::look_up(lists, s, kind_table::head_dictionary(k), EntryId(value));
-    let Lookup::At {
-        at: head_at,
-        len: head_len,
-    } = head
-    else {
-        return Located::Bad;
+    let d = kind_table::head_dictionary(k);
+    let Some(head) = bytes_dictionary::look_up(lists, s, d, EntryId(value))? else {
+        return Err(Refusal::Unopened);
     };
-    let rest_len = len - length;
+    let rest = Span {
+        at: entry.at + length,
+        len: entry.len - length,
+    };
     // How many bytes of the rest belong to the first part.
-    let moved = if kind_table::is_split(k) { rest_len } else { 0 };
-    let first = head_len + moved;
-    let second = rest_len - moved;
-    let rest_at = at + length;
-    Located::At(Pieces {
+    let moved = if kind_table::is_split(k) { rest.len } else { 0 };
+    let first = head.len + moved;
+    let second = rest.len - moved;
+    Ok(Pieces {
         kind: k,
         first,
         second,
-        front_at: head_at,
-        front_len: head_len,
-        back_at: rest_at,
-        back_len: rest_len,
+        front: head,
+        back: rest,
         escaped: false,
     })
 }
 
-// Where a name lies whose entry is a packed text and tag.
-fn locate_tagged(pages: &[u8], k: usize, at: usize, len: usize) -> Located
-    requires { (k < kinds) × ((row k).way ≡ packs) × (at + len ≤ length pages.now) }
-    ensures { LocatesAlone pages.now k at len result }
+// The pieces of a tagged string. Its text stands behind `before` bytes of the entry, its tag in `stored` bytes behind the first one.
+fn tagged(k: usize, entry: Span, before: usize, stored: usize, tag: usize, escaped: bool) -> Pieces
+    requires { (before ≤ entry.len) × (entry.at + entry.len < 2 ^ 64) × (1 ≤ entry.len) }
+    ensures { result ≡ tagged_pieces k entry before stored tag escaped }
 {
-    match string_dv_dict_split::split(bytes_dictionary::id_to_bytes(pages, at, len)) {
-        Form::Short(n) => {
-            let before = n + 1;
-            let text = len - before;
-            let front_at = at + before;
-            let back_at = at + 1;
-            Located::At(Pieces {
-                kind: k,
-                first: text,
-                second: n,
-                front_at,
-                front_len: text,
-                back_at,
-                back_len: n,
-                escaped: false,
-            })
-        }
-        Form::Long(end, n) => {
-            let before = end + 2;
-            let text = len - before;
-            let front_at = at + before;
-            let back_at = at + 1;
-            Located::At(Pieces {
-                kind: k,
-                first: text,
-                second: n,
-                front_at,
-                front_len: text,
-                back_at,
-                back_len: end,
-                escaped: true,
-            })
-        }
-        Form::Cut => Located::Bad,
+    let text = entry.len - before;
+    let front = Span {
+        at: entry.at + before,
+        len: text,
+    };
+    let back = Span {
+        at: entry.at + 1,
+        len: stored,
+    };
+    Pieces {
+        kind: k,
+        first: text,
+        second: tag,
+        front,
+        back,
+        escaped,
+    }
+}
+
+// Where a name lies whose entry is a packed text and tag. Unopened: the entry is no such form.
+fn locate_tagged(pages: &[u8], k: usize, entry: Span) -> Result<Pieces, Refusal>
+    requires { (k < kinds) × ((row k).way ≡ packs) × (entry.at + entry.len ≤ length pages.now) }
+    ensures { LocatesAlone pages.now k entry.at entry.len result }
+{
+    match string_dv_dict_split::split(bytes_dictionary::id_to_bytes(pages, entry)) {
+        Some(Form::Short { tag }) => Ok(tagged(k, entry, tag + 1, tag, tag, false)),
+        Some(Form::Long { end, tag }) => Ok(tagged(k, entry, end + 2, end, tag, true)),
+        None => Err(Refusal::Unopened),
     }
 }
 
 // Where a name lies whose entry is its first part.
-fn locate_plain(k: usize, at: usize, len: usize) -> Located
+fn locate_plain(k: usize, entry: Span) -> Pieces
     requires { (k < kinds) × ((row k).way ≡ whole) }
-    ensures { (pages : Bytes) → LocatesAlone pages k at len result }
+    ensures { (pages : Bytes) → LocatesAlone pages k entry.at entry.len (Ok result) }
 {
-    Located::At(Pieces {
+    let nothing = Span {
+        at: entry.at,
+        len: 0,
+    };
+    Pieces {
         kind: k,
-        first: len,
+        first: entry.len,
         second: 0,
-        front_at: at,
-        front_len: len,
-        back_at: at,
-        back_len: 0,
+        front: entry,
+        back: nothing,
         escaped: false,
-    })
+    }
 }
 
-fn locate_entry(pages: &[u8], lists: &[u8], s: Sizes, k: usize, at: usize, len: usize) -> Located
+fn locate_entry(
+    pages: &[u8],
+    lists: &[u8],
+    s: Sizes,
+    k: usize,
+    entry: Span,
+) -> Result<Pieces, Refusal>
     requires in_range { InRange s × (page_bytes s ≤ length pages.now) × (list_bytes s ≤ length lists.now) }
-    requires k_lt_kinds { (k < kinds) × (at + len ≤ page_bytes s) }
-    ensures { LocatesEntry s pages.now lists.now k at len result }
+    requires k_lt_kinds { (k < kinds) × (entry.at + entry.len ≤ page_bytes s) }
+    ensures { LocatesEntry s pages.now lists.now k entry.at entry.len result }
 {
     let way = kind_table::row_of(k).way;
     match way {
-        Way::Splits => locate_pair(pages, lists, s, k, at, len),
-        Way::Whole => locate_plain(k, at, len),
-        Way::Packs => locate_tagged(pages, k, at, len),
-        Way::Pairs => locate_pair(pages, lists, s, k, at, len),
+        Way::Splits | Way::Pairs => locate_pair(pages, lists, s, k, entry),
+        Way::Whole => Ok(locate_plain(k, entry)),
+        Way::Packs => locate_tagged(pages, k, entry),
     }
 }
 
-// The name that has a number.
-pub fn locate_name(pages: &[u8], lists: &[u8], s: Sizes, number: GlobalId) -> Located
+// The name that has a number. None: no name has it. Unopened: the memory is no dictionary's.
+pub fn locate_name(
+    pages: &[u8],
+    lists: &[u8],
+    s: Sizes,
+    number: GlobalId,
+) -> Result<Option<Pieces>, Refusal>
     requires { InRange s × (page_bytes s ≤ length pages.now) × (list_bytes s ≤ length lists.now) }
     ensures { LocatesName s pages.now lists.now number.0 result }
 {
-    match meta_dv_dict::global_to_local(lists, s, number) {
-        Owner::Local(k, local) => {
-            let d = kind_table::main_dictionary(k);
-            match bytes_dictionary::look_up(lists, s, d, names::local_to_entry(local)) {
-                Lookup::At { at, len } => locate_entry(pages, lists, s, k, at, len),
-                Lookup::Nothing => Located::Nothing,
-                Lookup::Bad => Located::Bad,
-            }
-        }
-        Owner::Free => Located::Nothing,
-        Owner::Bad => Located::Bad,
-    }
+    let Some(Owner { kind, local }) = meta_dv_dict::global_to_local(lists, s, number)? else {
+        return Ok(None);
+    };
+    let d = kind_table::main_dictionary(kind);
+    let Some(entry) = bytes_dictionary::look_up(lists, s, d, names::local_to_entry(local))? else {
+        return Ok(None);
+    };
+    let pieces = locate_entry(pages, lists, s, kind, entry)?;
+    Ok(Some(pieces))
 }
 
 // Writes the piece at `at`. If it is escaped, the escapes are undone.
@@ -176,7 +172,7 @@ fn write_piece(piece: &[u8], escaped: bool, buffer: &mut [u8], at: usize)
     if escaped {
         string_dv_dict_unpack::write_unescaped(piece, buffer, at);
     } else {
-        parts::write(Mode::Raw, piece, &mut buffer[at..]);
+        string_dv_dict::write_stored(Part::raw(piece), buffer, at);
     }
 }
 
@@ -185,8 +181,8 @@ pub fn copy_name(pages: &[u8], x: Pieces, buffer: &mut [u8])
     requires { Copyable pages.now x × (x.first + x.second ≤ length buffer.old) }
     ensures { buffer.new ≡ pieces_in pages.now x ++ drop (x.first + x.second) buffer.old }
 {
-    let front = bytes_dictionary::id_to_bytes(pages, x.front_at, x.front_len);
-    let back = bytes_dictionary::id_to_bytes(pages, x.back_at, x.back_len);
+    let front = bytes_dictionary::id_to_bytes(pages, x.front);
+    let back = bytes_dictionary::id_to_bytes(pages, x.back);
     write_piece(front, false, buffer, 0);
-    write_piece(back, x.escaped, buffer, x.front_len);
+    write_piece(back, x.escaped, buffer, x.front.len);
 }

@@ -7,6 +7,7 @@ use native.Mathlib.Omega.{arith}
 use borrow.Author.Tests.{ltb-false, leb-true, eqb-false}
 use lib.Dec.{eqb, leb, ltb}
 use lib.ListN.{length}
+use Rattle.std.specs.Prelude.{Some, Ok}
 use Rattle.slices.specs.Bytes.{Bytes}
 use Rattle.slices.proofs.Tests.{Split, split}
 use Rattle.words.specs.Words.{word_at, quad_at}
@@ -19,13 +20,13 @@ use Rattle.bytes_index.specs.Entries.{Entries, Misses}
 use Rattle.bytes_index.specs.Search.{Searched}
 use Rattle.bytes_index.specs.declared.Probe.TheVariants.{Free}
 use Rattle.bytes_buffer.specs.declared.Spot.{Spot}
-use Rattle.bytes_buffer.specs.declared.Spot.TheVariants.{Current, Next, NoPage, Bad}
+use Rattle.bytes_buffer.specs.declared.Spot.TheVariants.{Current, Next}
 use Rattle.bytes_buffer.specs.Pages.{grown_at, all_pages}
 use Rattle.bytes_buffer.specs.Spots.{spot_of, current_of, spot_in, InPages, untaken_after}
 use Rattle.bytes_buffer.proofs.Pages.{grown-other}
 use Rattle.bytes_buffer.proofs.Spots.{next-in}
 use Rattle.bytes_buffer.proofs.Plans.{current-pages, next-pages, spot-kept}
-use Rattle.bytes_dictionary.specs.Written.{pages_after, lists_after, HasRoom, IsSpot}
+use Rattle.bytes_dictionary.specs.Written.{pages_after, lists_after, HasRoom}
 use Rattle.bytes_dictionary.specs.Store.{Store, inserted, StoreAt}
 use Rattle.bytes_dictionary.specs.Ready.{Ready}
 use Rattle.bytes_dictionary.proofs.Updates.{upd_other}
@@ -49,15 +50,15 @@ spot_in-pages s c w u n = go (split (eqb c 0)) (split (ltb s.n c)) (split (ltb (
   where
     go : Split (eqb c 0) → Split (ltb s.n c) → Split (ltb (page_size s) (used_of w)) → Split (leb (used_of w + n) (page_size s)) → InPages s u n (spot_of s c w u n)
     go (inl p) q o f = rw p (next-in s u n)
-    go (inr p) (inl q) o f = rw (p, q) tt
-    go (inr p) (inr q) (inl o) f = rw (p, q, o) tt
+    go (inr p) (inl q) o f = rw (p, q) (inr refl)
+    go (inr p) (inr q) (inl o) f = rw (p, q, o) (inr refl)
     go (inr p) (inr q) (inr o) (inl f) =
         rw (p, q, o, f)
         (let y : c ≤ s.n = ltb-false s.n c q in let z : c ≢ 0 = eqb-false c 0 p in omega arith, leb-true (used_of w + n) (page_size s) f)
     go (inr p) (inr q) (inr o) (inr f) = rw (p, q, o, f) (next-in s u n)
 
 -- With any lowest untaken page: that of the second of two entries is planned before the first is written.
-pub planned-room : (s : Sizes) (W : ℕ → ℕ) (d u n : ℕ) (spot : Spot) → n ≤ page_size s → spot_in s W d u n ≡ spot → HasRoom s n spot
+pub planned-room : (s : Sizes) (W : ℕ → ℕ) (d u n : ℕ) (spot : Spot) → n ≤ page_size s → spot_in s W d u n ≡ Ok spot → HasRoom s n spot
 unfolding spot_in
 planned-room s W d u n spot l e = plan-room s u n spot l (subst (InPages s u n) e (spot_in-pages s (W (current_at d)) (W (page_at (current_of W d))) u n))
 
@@ -108,14 +109,14 @@ commit-block s store b pages lists k g S T h e =
 module _ (s : Sizes) (store : Store) (pages lists : Bytes) (d place : ℕ) (spot : Spot) (t : ℕ) (key : Bytes) (S : StoreAt s store pages lists)
     (dl : d < dictionaries) (room : store.count d < s.e) (short : length key ≤ page_size s) (stamp-fits : t < 2 ^ 64)
     (later : (i : ℕ) → i + 1 ≡ store.count d → store.stamp d i < t) (pl : place < 2 * s.e) (M : Misses s (λ j. quad_at lists (place_at s d j)) (store.entries d) key place)
-    (planned : spot_in s (word_at lists) d (word_at lists untaken_at) (length key) ≡ spot) (spotted : IsSpot spot) where
+    (planned : spot_in s (word_at lists) d (word_at lists untaken_at) (length key) ≡ Ok spot) where
   commit-entry : (b : Blocks) → BlocksAt s b lists
       → let lists₁ = lists_after s lists d (store.count d) place spot t key in
       StoreAt s (inserted s store d key t) (pages_after s pages spot key) lists₁ × BlocksAt s b lists₁
   commit-entry b T =
       let r : InRange s = ranged s S.header.ranged in
       let f : list_bytes s ≤ length lists = S.header.lists-fit in (
-        store-more s store pages lists d place t key (record { ranged = r; pages-fit = S.header.pages-fit; lists-fit = f; known = dl }) S room short stamp-fits later pl M spot planned spotted,
+        store-more s store pages lists d place t key (record { ranged = r; pages-fit = S.header.pages-fit; lists-fit = f; known = dl }) S room short stamp-fits later pl M spot planned,
         kept-blocks s b lists _
             (λ i h.
             words-beside s lists d (store.count d) place t key r f dl room pl spot (planned-room s (word_at lists) d (word_at lists untaken_at) (length key) spot short planned) i
@@ -131,7 +132,6 @@ module _ (s : Sizes) (store : Store) (b : Blocks) (pages lists : Bytes) (S : Sto
       commit-entry s store pages lists d place spot t key S R.known R.room R.short R.stamp-fits R.later R.searched.range
       (R.searched.right (store.entries d) (S.dict d R.known).holds)
       R.planned
-      R.spotted
       b
       T
 
@@ -150,29 +150,27 @@ module _ (s : Sizes) (store : Store) (b : Blocks) (pages lists : Bytes) (S : Sto
     after-head = lists_after s lists dh (store.count dh) hplace hspot t head
 
     -- The plan for the main entry took the head's page into account.
-    untaken-after : word_at after-head untaken_at ≡ untaken_after (word_at lists untaken_at) hspot
+    untaken-after : word_at after-head untaken_at ≡ untaken_after (word_at lists untaken_at) (Some hspot)
     unfolding after-head inserted
-    untaken-after = (insert-commit dh hplace hspot t head R).0.paged.lowest ∙ go hspot R.planned R.spotted
+    untaken-after = (insert-commit dh hplace hspot t head R).0.paged.lowest ∙ go hspot R.planned
       where
-        go : (x : Spot) → spot_in s (word_at lists) dh (word_at lists untaken_at) (length head) ≡ x → IsSpot x
-            → all_pages (grown_at s store.space dh (length head)) ≡ untaken_after (word_at lists untaken_at) x
-        go (Current page offset) e ok =
+        go : (x : Spot) → spot_in s (word_at lists) dh (word_at lists untaken_at) (length head) ≡ Ok x
+            → all_pages (grown_at s store.space dh (length head)) ≡ untaken_after (word_at lists untaken_at) (Some x)
+        go (Current page offset) e =
             current-pages s store.space store.space (word_at lists) dh (word_at lists untaken_at) (length head) S.paged R.known refl (sym S.paged.lowest) page offset e
-        go (Next page) e ok =
+        go (Next page) e =
             let a = next-pages s store.space store.space (word_at lists) dh (word_at lists untaken_at) (length head) S.paged R.known refl (sym S.paged.lowest) page e in
             omega (arith, a)
-        go NoPage e ok = absurd ok
-        go Bad e ok = absurd ok
 
     module _ (d : ℕ) (q : dh ≢ d) (dl : d < dictionaries) where
       other : d ≢ dh
       other e = q (sym e)
 
-      spot-after : (n : ℕ) → spot_in s (word_at after-head) d (word_at after-head untaken_at) n ≡ spot_in s (word_at lists) d (untaken_after (word_at lists untaken_at) hspot) n
+      spot-after : (n : ℕ) → spot_in s (word_at after-head) d (word_at after-head untaken_at) n ≡ spot_in s (word_at lists) d (untaken_after (word_at lists untaken_at) (Some hspot)) n
       unfolding after-head
       spot-after n =
           ap (λ (u : ℕ). spot_in s (word_at after-head) d u n) untaken-after
-          ∙ spot-kept s store.space (inserted s store dh head t).space (word_at lists) (word_at after-head) d (untaken_after (word_at lists untaken_at) hspot) n S.paged
+          ∙ spot-kept s store.space (inserted s store dh head t).space (word_at lists) (word_at after-head) d (untaken_after (word_at lists untaken_at) (Some hspot)) n S.paged
           (insert-commit dh hplace hspot t head R).0.paged
           dl
           (space-other s store dh head t d other)
@@ -181,7 +179,7 @@ module _ (s : Sizes) (store : Store) (b : Blocks) (pages lists : Bytes) (S : Sto
           (current_at d)
           (inr (inl (d, dl, other, refl))))
 
-      misses-after : (place : ℕ) (key : Bytes) → Searched s d pages lists key (Free place)
+      misses-after : (place : ℕ) (key : Bytes) → Searched s d pages lists key (Ok (Free place))
           → Misses s (λ j. quad_at after-head (place_at s d j)) ((inserted s store dh head t).entries d) key place
       unfolding after-head
       misses-after place key F =
@@ -198,8 +196,8 @@ module _ (s : Sizes) (store : Store) (b : Blocks) (pages lists : Bytes) (S : Sto
 
   pub commit-both : (dh hplace : ℕ) (hspot : Spot) (head : Bytes) (d place : ℕ) (spot : Spot) (key : Bytes) (t k g : ℕ) → dh ≢ d
       → Ready s store pages lists dh hplace hspot t head
-      → d < dictionaries → Searched s d pages lists key (Free place) → store.count d < s.e → length key ≤ page_size s
-      → spot_in s (word_at lists) d (untaken_after (word_at lists untaken_at) hspot) (length key) ≡ spot → IsSpot spot
+      → d < dictionaries → Searched s d pages lists key (Ok (Free place)) → store.count d < s.e → length key ≤ page_size s
+      → spot_in s (word_at lists) d (untaken_after (word_at lists untaken_at) (Some hspot)) (length key) ≡ Ok spot
       → ((i : ℕ) → i + 1 ≡ store.count d → store.stamp d i < t)
       → k < kinds → pick s b k ≡ some g
       → let pages₁ = pages_after s pages hspot head in
@@ -208,7 +206,7 @@ module _ (s : Sizes) (store : Store) (b : Blocks) (pages lists : Bytes) (S : Sto
       let lists' = block_written s (lists_after s lists₁ d (store.count d) place spot t key) k (b.next k) g in
       StoreAt s (inserted s (inserted s store dh head t) d key t) pages' lists' × BlocksAt s (took s.w b k g) lists'
   unfolding after-head
-  commit-both dh hplace hspot head d place spot key t k g q R dl F room short planned spotted later h e =
+  commit-both dh hplace hspot head d place spot key t k g q R dl F room short planned later h e =
       let A = insert-commit dh hplace hspot t head R in
       let o : d ≢ dh = λ z. q (sym z) in
       let c = count-other s store dh head t d o in
@@ -220,7 +218,6 @@ module _ (s : Sizes) (store : Store) (b : Blocks) (pages lists : Bytes) (S : Sto
       F.range
       (misses-after dh hplace hspot t head R d q dl place key F)
       (spot-after dh hplace hspot t head R d q dl (length key) ∙ planned)
-      spotted
       b
       A.1 in
       let C = subst

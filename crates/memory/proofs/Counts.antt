@@ -8,21 +8,20 @@ use native.Mathlib.Omega.{arith}
 use native.Mathlib.Decide.{ℕ_discrete, dec_lt}
 use borrow.Author.Tests.{eq-eqb, ne_eqb}
 use lib.ListN.{length}
+use Rattle.std.specs.Prelude.{Ok, Err}
 use Rattle.slices.specs.Bytes.{Bytes}
 use Rattle.words.specs.Words.{word_at}
+use Rattle.refusals.specs.declared.Refusal.{Refusal}
+use Rattle.refusals.specs.declared.Refusal.TheVariants.{Unopened, NoPage}
 use Rattle.layout.specs.declared.Sizes.{Sizes}
 use Rattle.layout.specs.Sizes.{kinds, dictionaries}
 use Rattle.layout.specs.Fields.{untaken_at, count_at}
-use Rattle.header.specs.declared.Header.TheVariants.{Opened}
 use Rattle.header.specs.Header.{header_of}
 use Rattle.bytes_index.specs.Entries as Index
-use Rattle.bytes_buffer.specs.declared.Spot.TheVariants.{Bad}
-use Rattle.bytes_buffer.specs.declared.Lowest.TheVariants.{Page}
 use Rattle.bytes_buffer.specs.Pages.{Space, sum, all_pages}
 use Rattle.bytes_buffer.specs.Spots.{lowest_of, spot_in}
 use Rattle.bytes_buffer.proofs.Pages.{sum_same, sum-most}
 use Rattle.bytes_buffer.proofs.Plans.{untaken-known, plan-says}
-use Rattle.bytes_dictionary.specs.declared.Counted.TheVariants.{Entries}
 use Rattle.bytes_dictionary.specs.Reading.{count_in}
 use Rattle.bytes_dictionary.specs.Store.{DictAt}
 use Rattle.bytes_dictionary.proofs.Header.{store-passes}
@@ -56,12 +55,10 @@ count-length s pages lists d es c t xs D e = go (dec_lt c (length xs)) (dec_lt (
     go : Dec (c < length xs) → Dec (length xs < c) → c ≡ length xs
     go (yes l) h =
         let u = entry-below c xs l in
-        let v : none ≡ some u.0 = sym (D.past c (omega arith)) ∙ e c ∙ u.1 in
-        let z : ◌≡◌ {A = ℕ} 0 1 = cc in absurd (omega arith)
+        let v : none ≡ some u.0 = sym (D.past c (omega arith)) ∙ e c ∙ u.1 in cc
     go (no l) (yes h) =
         let u = D.in_use (length xs) h in
-        let v : none ≡ some u.0 = sym (entry_past (length xs) xs (omega arith)) ∙ sym (e (length xs)) ∙ u.1 in
-        let z : ◌≡◌ {A = ℕ} 0 1 = cc in absurd (omega arith)
+        let v : none ≡ some u.0 = sym (entry_past (length xs) xs (omega arith)) ∙ sym (e (length xs)) ∙ u.1 in cc
     go (no l) (no h) = omega arith
 
 module _ {s : Sizes} {st : State} {pages lists : Bytes} (S : Stands s st pages lists) where
@@ -77,11 +74,11 @@ module _ {s : Sizes} {st : State} {pages lists : Bytes} (S : Stands s st pages l
     head-count p =
         count-length s pages lists (row k).heads_at _ _ _ (st.part k).heads (S.stored.dict (row k).heads_at (head-below k)) ((S.parts k l).heads p)
 
-    pub main-counted : count_in s (word_at lists (count_at (row k).main_at)) ≡ Entries (length (st.part k).names)
-    main-counted = store-counted s S.store pages lists (row k).main_at (main-below k) S.stored ∙ ap Entries main-count
+    pub main-counted : count_in s (word_at lists (count_at (row k).main_at)) ≡ Ok (length (st.part k).names)
+    main-counted = store-counted s S.store pages lists (row k).main_at (main-below k) S.stored ∙ ap Ok main-count
 
-    pub head-counted : (row k).paired ≡ true → count_in s (word_at lists (count_at (row k).heads_at)) ≡ Entries (length (st.part k).heads)
-    head-counted p = store-counted s S.store pages lists (row k).heads_at (head-below k) S.stored ∙ ap Entries (head-count p)
+    pub head-counted : (row k).paired ≡ true → count_in s (word_at lists (count_at (row k).heads_at)) ≡ Ok (length (st.part k).heads)
+    head-counted p = store-counted s S.store pages lists (row k).heads_at (head-below k) S.stored ∙ ap Ok (head-count p)
 
   pub next-count : (k : ℕ) → st.blocks.next k ≡ length (st.part k).names
   next-count k = (S.good.part k).numbered
@@ -98,14 +95,19 @@ module _ {s : Sizes} {st : State} {pages lists : Bytes} (S : Stands s st pages l
   pub untaken-is : word_at lists untaken_at ≡ all_pages st.space
   untaken-is = S.stored.paged.lowest ∙ pages-same
 
-  pub lowest-is-known : lowest_of s (word_at lists untaken_at) ≡ Page (all_pages st.space)
-  lowest-is-known = untaken-known s S.store.space (word_at lists) S.stored.paged ∙ ap Page pages-same
+  pub lowest-is-known : lowest_of s (word_at lists untaken_at) ≡ Ok (all_pages st.space)
+  lowest-is-known = untaken-known s S.store.space (word_at lists) S.stored.paged ∙ ap Ok pages-same
 
-  pub header_is : header_of (length pages) lists ≡ Opened s
+  pub header_is : header_of (length pages) lists ≡ Ok s
   header_is = store-passes s S.store pages lists S.stored
 
-  pub spot_known : (d u n : ℕ) → d < dictionaries → spot_in s (word_at lists) d u n ≡ Bad → ⊥
-  spot_known d u n l e = plan-says s S.store.space (word_at lists) d u n S.stored.paged l Bad e
+  -- A plan without a spot found no page,
+  pub spot-pageless : {why : Refusal} (d u n : ℕ) → d < dictionaries → spot_in s (word_at lists) d u n ≡ Err why → why ≡ NoPage
+  spot-pageless d u n l e = (plan-says s S.store.space (word_at lists) d u n S.stored.paged l (Err _) e).0
+
+  -- and never memory that is no dictionary's.
+  pub spot_known : (d u n : ℕ) → d < dictionaries → spot_in s (word_at lists) d u n ≡ Err Unopened → ⊥
+  spot_known d u n l e = let q : Unopened ≡ NoPage = spot-pageless d u n l e in cc
 
   -- ---- the next stamp
 

@@ -9,10 +9,12 @@ use native.Mathlib.Omega.{arith}
 use borrow.Author.Tests.{le-leb, lt-leb, le-ltb, lt-ltb, eq-eqb}
 use lib.Dec.{leb}
 use lib.ListN.{length}
+use Rattle.std.specs.Prelude.{Option, Some, None, Result, Ok, Err}
 use Rattle.slices.specs.Bytes.{Bytes, same_bytes}
 use Rattle.slices.proofs.Bytes.{bytes-true}
 use Rattle.slices.proofs.Tests.{Split, split, and_right}
 use Rattle.words.specs.Words.{word_at}
+use Rattle.refusals.specs.declared.Refusal.{Refusal}
 use Rattle.refusals.specs.declared.Refusal.TheVariants as R
 use Rattle.layout.specs.declared.Sizes.{Sizes}
 use Rattle.layout.specs.Sizes.{kinds, dictionaries, page_size}
@@ -22,12 +24,12 @@ use Rattle.ranked_pair_dictionary.proofs.Laws.{fid-same}
 use Rattle.bytes_index.specs.Search.{Searched}
 use Rattle.bytes_index.specs.declared.Probe.TheVariants.{At, Free}
 use Rattle.bytes_buffer.specs.declared.Spot.{Spot}
-use Rattle.bytes_buffer.specs.declared.Spot.TheVariants.{Current, Next, NoPage, Bad}
+use Rattle.bytes_buffer.specs.declared.Spot.TheVariants.{Current, Next}
 use Rattle.bytes_buffer.specs.Pages.{Space, fits, grown_at, all_pages}
 use Rattle.bytes_buffer.specs.Spots.{spot_in, untaken_after}
 use Rattle.bytes_buffer.proofs.Pages.{grown-other, pages-fit, pages-unfit}
 use Rattle.bytes_buffer.proofs.Plans.{plan-says, current-pages, next-pages, none_over}
-use Rattle.bytes_dictionary.specs.Written.{pages_after, lists_after, IsSpot}
+use Rattle.bytes_dictionary.specs.Written.{pages_after, lists_after}
 use Rattle.bytes_dictionary.specs.Ready.{Ready}
 use Rattle.blocks.specs.Blocks.{pick, global}
 use Rattle.blocks.specs.Answers.{block_written}
@@ -44,7 +46,7 @@ use Rattle.model.proofs.Keys.{entry_lt, length-keys, looked-up}
 use Rattle.model.proofs.Decide.{Entering, decided-known, decided-refused, decided-block, decided-enter}
 use Rattle.memory.specs.Stands.{stamp_in, Stands}
 use Rattle.memory.proofs.Probes.{main-below, head-below, head_apart, main-at, main-free}
-use Rattle.memory.proofs.Counts.{main-count, head-count, next-count, untaken-is, spot_known, stamp-small}
+use Rattle.memory.proofs.Counts.{main-count, head-count, next-count, untaken-is, stamp-small}
 use Rattle.memory.proofs.Added.{main_of, heads_of, part_of, key_in, new-paired, stands-added, added-one, added-both}
 use Rattle.memory.proofs.Commits.{commit-one, commit-both}
 
@@ -103,28 +105,32 @@ unstored s k t hs (x ∷ xs) rest few p o c = go (split (same_bytes (fid (length
 
 -- ---- what was found out
 
+-- Where the name's head goes, and where its key goes after a head at this spot, or after none.
+abbrev pub head_plan : Sizes → State → Bytes → Name → Result Spot Refusal
+head_plan s st lists a = spot_in s (word_at lists) (heads_of a) (all_pages st.space) (length (name_head a))
+
+abbrev pub main_plan : Sizes → State → Bytes → Name → Option Spot → Result Spot Refusal
+main_plan s st lists a head = spot_in s (word_at lists) (main_of a) (untaken_after (all_pages st.space) head) (length (key_in st a))
+
 -- Before a name is written whose head is stored or whose kind has none.
 pub record One (s : Sizes) (st : State) (pages lists : Bytes) (a : Name) (place : ℕ) (spot : Spot) (g : ℕ) : Type 0 where
   pub legal : checks s a ≡ none
   pub old : new_head a (part_of st a) ≡ false
-  pub searched : Searched s (main_of a) pages lists (key_in st a) (Free place)
+  pub searched : Searched s (main_of a) pages lists (key_in st a) (Ok (Free place))
   pub room : length (part_of st a).names < s.e
-  pub planned : spot_in s (word_at lists) (main_of a) (all_pages st.space) (length (key_in st a)) ≡ spot
-  pub spotted : IsSpot spot
+  pub planned : main_plan s st lists a None ≡ Ok spot
   pub picked : pick s st.blocks a.kind ≡ some g
 
 -- Before a name is written after its head, which is a new one: both were searched and planned first.
 pub record Both (s : Sizes) (st : State) (pages lists : Bytes) (a : Name) (hplace : ℕ) (hspot : Spot) (place : ℕ) (spot : Spot) (g : ℕ) : Type 0 where
   pub legal : checks s a ≡ none
   pub new : new_head a (part_of st a) ≡ true
-  pub head-searched : Searched s (heads_of a) pages lists (name_head a) (Free hplace)
-  pub searched : Searched s (main_of a) pages lists (key_in st a) (Free place)
+  pub head-searched : Searched s (heads_of a) pages lists (name_head a) (Ok (Free hplace))
+  pub searched : Searched s (main_of a) pages lists (key_in st a) (Ok (Free place))
   pub head-room : length (part_of st a).heads < s.e
   pub room : length (part_of st a).names < s.e
-  pub head-planned : spot_in s (word_at lists) (heads_of a) (all_pages st.space) (length (name_head a)) ≡ hspot
-  pub head-spotted : IsSpot hspot
-  pub planned : spot_in s (word_at lists) (main_of a) (untaken_after (all_pages st.space) hspot) (length (key_in st a)) ≡ spot
-  pub spotted : IsSpot spot
+  pub head-planned : head_plan s st lists a ≡ Ok hspot
+  pub planned : main_plan s st lists a (Some hspot) ≡ Ok spot
   pub picked : pick s st.blocks a.kind ≡ some g
 
 module _ {s : Sizes} {st : State} {pages lists : Bytes} (S : Stands s st pages lists) where
@@ -134,18 +140,16 @@ module _ {s : Sizes} {st : State} {pages lists : Bytes} (S : Stands s st pages l
     at_store : sp d ≡ S.store.space d
     at_store = same ∙ sym (S.spaces d l)
 
-    pages-spot : (spot : Spot) → u ≤ s.n → spot_in s (word_at lists) d u n ≡ spot → IsSpot spot
-        → (all_pages (grown_at s sp d n) ≡ untaken_after u spot) × (all_pages (grown_at s sp d n) ≤ s.n)
-    pages-spot (Current g o) h e k =
+    pages-spot : (spot : Spot) → u ≤ s.n → spot_in s (word_at lists) d u n ≡ Ok spot
+        → (all_pages (grown_at s sp d n) ≡ untaken_after u (Some spot)) × (all_pages (grown_at s sp d n) ≤ s.n)
+    pages-spot (Current g o) h e =
         let p = current-pages s S.store.space sp (word_at lists) d u n S.stored.paged l at_store all g o e in (p, omega arith)
-    pages-spot (Next g) h e k =
+    pages-spot (Next g) h e =
         let p = next-pages s S.store.space sp (word_at lists) d u n S.stored.paged l at_store all g e in
-        let q = plan-says s S.store.space (word_at lists) d u n S.stored.paged l (Next g) e in
+        let q = plan-says s S.store.space (word_at lists) d u n S.stored.paged l (Ok (Next g)) e in
         (omega arith, omega (arith, q.2))
-    pages-spot NoPage h e k = absurd k
-    pages-spot Bad h e k = absurd k
 
-    pages-none : spot_in s (word_at lists) d u n ≡ NoPage → s.n < all_pages (grown_at s sp d n)
+    pages-none : spot_in s (word_at lists) d u n ≡ Err R.NoPage → s.n < all_pages (grown_at s sp d n)
     pages-none e = none_over s S.store.space sp (word_at lists) d u n S.stored.paged l at_store all e
 
   -- ---- a legal name
@@ -174,7 +178,7 @@ module _ {s : Sizes} {st : State} {pages lists : Bytes} (S : Stands s st pages l
       space-old : space_after s st a ≡ grown_at s st.space (main_of a) (length (key_in st a))
       space-old = rw old
 
-      pub known-one : (i : ℕ) → Searched s (main_of a) pages lists (key_in st a) (At i)
+      pub known-one : (i : ℕ) → Searched s (main_of a) pages lists (key_in st a) (Ok (At i))
           → (decide s st a ≡ found (global s.w st.blocks a.kind i)) × (i < st.blocks.next a.kind)
       known-one i q =
           let e = main-at s st pages lists S a.kind kind-in (key_in st a) i q in (
@@ -182,7 +186,7 @@ module _ {s : Sizes} {st : State} {pages lists : Bytes} (S : Stands s st pages l
             omega (arith, entry_lt (key_in st a) (keys_of (part_of st a).heads (part_of st a).names) i e, length-keys (part_of st a).heads (part_of st a).names, next-count S a.kind),
           )
 
-      module _ (place : ℕ) (searched : Searched s (main_of a) pages lists (key_in st a) (Free place)) where
+      module _ (place : ℕ) (searched : Searched s (main_of a) pages lists (key_in st a) (Ok (Free place))) where
         new-one : number_of s st a ≡ none
         new-one = number-none s st a (local-old ∙ main-free s st pages lists S a.kind kind-in (key_in st a) place searched)
 
@@ -193,17 +197,17 @@ module _ {s : Sizes} {st : State} {pages lists : Bytes} (S : Stands s st pages l
           unfull-one : is_full s a (part_of st a) ≡ false
           unfull-one = rw (lt-leb s.e (length (part_of st a).names) main-room, old)
 
-          pub pageless-one : spot_in s (word_at lists) (main_of a) (all_pages st.space) (length (key_in st a)) ≡ NoPage → decide s st a ≡ refuse R.NoPage
+          pub pageless-one : main_plan s st lists a None ≡ Err R.NoPage → decide s st a ≡ refuse R.NoPage
           pageless-one e =
               decided-refused s st a legal new-one R.NoPage (room-over s st a unfull-one
               (subst (λ (sp : ℕ → Space). s.n < all_pages sp) (sym space-old) (pages-none st.space (main_of a) (all_pages st.space) _ (main-below a.kind) refl refl e)))
 
-          module _ (spot : Spot) (planned : spot_in s (word_at lists) (main_of a) (all_pages st.space) (length (key_in st a)) ≡ spot) (spotted : IsSpot spot) where
+          module _ (spot : Spot) (planned : main_plan s st lists a None ≡ Ok spot) where
             roomy-one : room s st a ≡ none
             roomy-one =
                 room_fits s st a unfull-one
                 (subst (λ (sp : ℕ → Space). all_pages sp ≤ s.n) (sym space-old)
-                (pages-spot st.space (main_of a) (all_pages st.space) _ (main-below a.kind) refl refl spot S.good.taken planned spotted).1)
+                (pages-spot st.space (main_of a) (all_pages st.space) _ (main-below a.kind) refl refl spot S.good.taken planned).1)
 
             pub blockless-one : pick s st.blocks a.kind ≡ none → decide s st a ≡ refuse R.NoBlock
             blockless-one b = decided-block s st a legal new-one roomy-one b
@@ -221,7 +225,7 @@ module _ {s : Sizes} {st : State} {pages lists : Bytes} (S : Stands s st pages l
       key-new = rw (pair, head-new)
 
       -- The key has the number that the head is about to get, so it is not stored.
-      pub head-missing : (i : ℕ) → Searched s (main_of a) pages lists (key_in st a) (At i) → ⊥
+      pub head-missing : (i : ℕ) → Searched s (main_of a) pages lists (key_in st a) (Ok (At i)) → ⊥
       head-missing i q =
           let e = main-at s st pages lists S a.kind kind-in (key_in st a) i q in
           let G = S.good.part a.kind in
@@ -229,9 +233,7 @@ module _ {s : Sizes} {st : State} {pages lists : Bytes} (S : Stands s st pages l
           pair
           G.names
           (G.covered pair) in
-          let u : some i ≡ none = sym e ∙ ap (λ (x : Bytes). entry_number x (keys_of (part_of st a).heads (part_of st a).names)) key-new ∙ n in
-          let z : ◌≡◌ {A = ℕ} 0 1 = cc in
-          omega arith
+          let u : some i ≡ none = sym e ∙ ap (λ (x : Bytes). entry_number x (keys_of (part_of st a).heads (part_of st a).names)) key-new ∙ n in cc
 
       new-both : number_of s st a ≡ none
       new-both = number-none s st a (local-is ∙ rw new)
@@ -257,57 +259,47 @@ module _ {s : Sizes} {st : State} {pages lists : Bytes} (S : Stands s st pages l
       headed-main : headed (main_of a) ≡ st.space (main_of a)
       headed-main = grown-other s st.space (heads_of a) (length (name_head a)) (main_of a) (λ e. main-apart (sym e))
 
-      module _ (head-room : length (part_of st a).heads < s.e) (main-room : length (part_of st a).names < s.e) (hspot : Spot)
-          (head-planned : spot_in s (word_at lists) (heads_of a) (all_pages st.space) (length (name_head a)) ≡ hspot) where
+      module _ (head-room : length (part_of st a).heads < s.e) (main-room : length (part_of st a).names < s.e) where
         unfull-both : is_full s a (part_of st a) ≡ false
         unfull-both = rw (lt-leb s.e (length (part_of st a).names) main-room, new, lt-leb s.e (length (part_of st a).heads) head-room)
 
-        pages-headed : IsSpot hspot → (all_pages headed ≡ untaken_after (all_pages st.space) hspot) × (all_pages headed ≤ s.n)
-        pages-headed ok = pages-spot st.space (heads_of a) (all_pages st.space) _ (head-below a.kind) refl refl hspot S.good.taken head-planned ok
+        pages-headed : (hspot : Spot) → head_plan s st lists a ≡ Ok hspot → (all_pages headed ≡ untaken_after (all_pages st.space) (Some hspot)) × (all_pages headed ≤ s.n)
+        pages-headed hspot e = pages-spot st.space (heads_of a) (all_pages st.space) _ (head-below a.kind) refl refl hspot S.good.taken e
 
-        module _ (spot : Spot) (planned : spot_in s (word_at lists) (main_of a) (untaken_after (all_pages st.space) hspot) (length (key_in st a)) ≡ spot) where
-          -- No page for the head, or none for the main entry after it.
-          over-both : (hspot ≡ NoPage) ⊎ (spot ≡ NoPage) → s.n < all_pages (grown_at s headed (main_of a) (length (key_in st a)))
-          over-both h = go hspot refl h
-            where
-              main-over : IsSpot hspot → spot ≡ NoPage → s.n < all_pages (grown_at s headed (main_of a) (length (key_in st a)))
-              main-over ok e =
-                  pages-none headed (main_of a) (untaken_after (all_pages st.space) hspot) _ (main-below a.kind) headed-main (pages-headed ok).0 (planned ∙ e)
+        -- No page for the head, or none for the main entry after it.
+        over-both : (head_plan s st lists a ≡ Err R.NoPage) ⊎ ((hspot : Spot) × (head_plan s st lists a ≡ Ok hspot) × (main_plan s st lists a (Some hspot) ≡ Err R.NoPage))
+            → s.n < all_pages (grown_at s headed (main_of a) (length (key_in st a)))
+        over-both (inl e) =
+            omega (
+              arith,
+              pages-none st.space (heads_of a) (all_pages st.space) _ (head-below a.kind) refl refl e,
+              grown-most s headed (main_of a) (length (key_in st a)) (main-below a.kind),
+            )
+        over-both (inr e) =
+            pages-none headed (main_of a) (untaken_after (all_pages st.space) (Some e.0)) _ (main-below a.kind) headed-main (pages-headed e.0 e.1).0 e.2
 
-              go : (x : Spot) → hspot ≡ x → (hspot ≡ NoPage) ⊎ (spot ≡ NoPage) → s.n < all_pages (grown_at s headed (main_of a) (length (key_in st a)))
-              go (Current g o) q (inl h) = let z : ◌≡◌ {A = ℕ} 0 1 = cc in absurd (omega arith)
-              go (Current g o) q (inr h) = main-over (subst IsSpot (sym q) tt) h
-              go (Next g) q (inl h) = let z : ◌≡◌ {A = ℕ} 0 1 = cc in absurd (omega arith)
-              go (Next g) q (inr h) = main-over (subst IsSpot (sym q) tt) h
-              go NoPage q h =
-                  omega (
-                    arith,
-                    pages-none st.space (heads_of a) (all_pages st.space) _ (head-below a.kind) refl refl (head-planned ∙ q),
-                    grown-most s headed (main_of a) (length (key_in st a)) (main-below a.kind),
-                  )
-              go Bad q h = absurd (spot_known S (heads_of a) (all_pages st.space) _ (head-below a.kind) (head-planned ∙ q))
+        pub pageless-both : (head_plan s st lists a ≡ Err R.NoPage) ⊎ ((hspot : Spot) × (head_plan s st lists a ≡ Ok hspot) × (main_plan s st lists a (Some hspot) ≡ Err R.NoPage))
+            → decide s st a ≡ refuse R.NoPage
+        pageless-both h =
+            decided-refused s st a legal new-both R.NoPage
+            (room-over s st a unfull-both (subst (λ (sp : ℕ → Space). s.n < all_pages sp) (sym space-new) (over-both h)))
 
-          pub pageless-both : (hspot ≡ NoPage) ⊎ (spot ≡ NoPage) → decide s st a ≡ refuse R.NoPage
-          pageless-both h =
-              decided-refused s st a legal new-both R.NoPage
-              (room-over s st a unfull-both (subst (λ (sp : ℕ → Space). s.n < all_pages sp) (sym space-new) (over-both h)))
+        module _ (hspot : Spot) (head-planned : head_plan s st lists a ≡ Ok hspot) (spot : Spot) (planned : main_plan s st lists a (Some hspot) ≡ Ok spot) where
+          roomy-both : room s st a ≡ none
+          roomy-both =
+              let p = pages-headed hspot head-planned in
+              room_fits s st a unfull-both
+              (subst (λ (sp : ℕ → Space). all_pages sp ≤ s.n) (sym space-new)
+              (pages-spot headed (main_of a) (untaken_after (all_pages st.space) (Some hspot)) _ (main-below a.kind) headed-main p.0 spot (omega (arith, p.0, p.1)) planned).1)
 
-          module _ (head-spotted : IsSpot hspot) (spotted : IsSpot spot) where
-            roomy-both : room s st a ≡ none
-            roomy-both =
-                let p = pages-headed head-spotted in
-                room_fits s st a unfull-both
-                (subst (λ (sp : ℕ → Space). all_pages sp ≤ s.n) (sym space-new)
-                (pages-spot headed (main_of a) (untaken_after (all_pages st.space) hspot) _ (main-below a.kind) headed-main p.0 spot (omega (arith, p.0, p.1)) planned spotted).1)
-
-            pub blockless-both : pick s st.blocks a.kind ≡ none → decide s st a ≡ refuse R.NoBlock
-            blockless-both b = decided-block s st a legal new-both roomy-both b
+          pub blockless-both : pick s st.blocks a.kind ≡ none → decide s st a ≡ refuse R.NoBlock
+          blockless-both b = decided-block s st a legal new-both roomy-both b
 
   -- ---- the writes
 
   -- A plan with the untaken word of the memory.
-  by_word : (d n : ℕ) (f : ℕ → ℕ) (spot : Spot) → spot_in s (word_at lists) d (f (all_pages st.space)) n ≡ spot → spot_in s (word_at lists) d (f (word_at lists untaken_at)) n ≡ spot
-  by_word d n f spot e = subst (λ (u : ℕ). spot_in s (word_at lists) d (f u) n ≡ spot) (sym (untaken-is S)) e
+  by_word : (d n : ℕ) (f : ℕ → ℕ) (spot : Spot) → spot_in s (word_at lists) d (f (all_pages st.space)) n ≡ Ok spot → spot_in s (word_at lists) d (f (word_at lists untaken_at)) n ≡ Ok spot
+  by_word d n f spot e = subst (λ (u : ℕ). spot_in s (word_at lists) d (f u) n ≡ Ok spot) (sym (untaken-is S)) e
 
   pub enter_one : {a : Name} {place : ℕ} {spot : Spot} {g : ℕ} → One s st pages lists a place spot g
       → (decide s st a ≡ enter g)
@@ -335,7 +327,7 @@ module _ {s : Sizes} {st : State} {pages lists : Bytes} (S : Stands s st pages l
       E = record {
         legal = O.legal;
         new = new-one a O.legal O.old place O.searched;
-        roomy = roomy-one a O.legal O.old place O.searched O.room spot O.planned O.spotted;
+        roomy = roomy-one a O.legal O.old place O.searched O.room spot O.planned;
         block = O.picked;
       }
 
@@ -346,7 +338,6 @@ module _ {s : Sizes} {st : State} {pages lists : Bytes} (S : Stands s st pages l
         room = subst (λ (n : ℕ). n < s.e) (sym (main-count S a.kind l)) O.room;
         short = key_fits a O.legal;
         planned = by_word (main_of a) _ (λ u. u) spot O.planned;
-        spotted = O.spotted;
         stamp-fits = stamp-small S;
         later = main-later a O.legal;
       }
@@ -372,8 +363,7 @@ module _ {s : Sizes} {st : State} {pages lists : Bytes} (S : Stands s st pages l
       B.searched
       (subst (λ (n : ℕ). n < s.e) (sym (main-count S a.kind l)) B.room)
       (key_fits a B.legal)
-      (by_word (main_of a) _ (λ u. untaken_after u hspot) spot B.planned)
-      B.spotted
+      (by_word (main_of a) _ (λ u. untaken_after u (Some hspot)) spot B.planned)
       (main-later a B.legal)
       l
       B.picked in (
@@ -403,7 +393,7 @@ module _ {s : Sizes} {st : State} {pages lists : Bytes} (S : Stands s st pages l
       E = record {
         legal = B.legal;
         new = new-both a B.legal B.new;
-        roomy = roomy-both a B.legal B.new B.head-room B.room hspot B.head-planned spot B.planned B.head-spotted B.spotted;
+        roomy = roomy-both a B.legal B.new B.head-room B.room hspot B.head-planned spot B.planned;
         block = B.picked;
       }
 
@@ -414,7 +404,6 @@ module _ {s : Sizes} {st : State} {pages lists : Bytes} (S : Stands s st pages l
         room = subst (λ (n : ℕ). n < s.e) (sym (head-count S a.kind l pd)) B.head-room;
         short = head-short s a B.legal S.good.sizes;
         planned = by_word (heads_of a) _ (λ u. u) hspot B.head-planned;
-        spotted = B.head-spotted;
         stamp-fits = stamp-small S;
         later = λ i q. (S.parts a.kind l).older pd i (omega (arith, head-count S a.kind l pd));
       }

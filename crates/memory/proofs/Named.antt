@@ -5,7 +5,6 @@ use mathlib.Core.Logic.{inl, inr}
 use mathlib.Core.Bool.{true, false}
 use mathlib.Core.List.{List, [], ◌∷◌}
 use mathlib.Core.Option.{none, some}
-use native.Mathlib.Omega.{arith}
 use lib.Dec.{eqb}
 use lib.ListN.{length}
 use Rattle.slices.specs.Bytes.{Bytes}
@@ -25,7 +24,7 @@ use Rattle.memory.proofs.Probes.{entry-of-number}
 -- ---- in a list of names
 
 named-key : (i : ℕ) (a : Name) (hs : List Bytes) (xs : List Stamped) → name_in i xs ≡ some a → entry_in i (keys_of hs xs) ≡ some (key_of hs a)
-named-key i a hs [] e = let z : ◌≡◌ {A = ℕ} 0 1 = cc in absurd (omega arith)
+named-key i a hs [] e = cc
 named-key i a hs (x ∷ xs) e = go (split (eqb i (length xs))) (named-key i a hs xs)
   where
     go : Split (eqb i (length xs)) → (name_in i xs ≡ some a → entry_in i (keys_of hs xs) ≡ some (key_of hs a)) → entry_in i (keys_of hs (x ∷ xs)) ≡ some (key_of hs a)
@@ -41,12 +40,11 @@ unnamed-key i hs (x ∷ xs) e = go (split (eqb i (length xs))) (unnamed-key i hs
   where
     go : Split (eqb i (length xs)) → (name_in i xs ≡ none → entry_in i (keys_of hs xs) ≡ none) → entry_in i (keys_of hs (x ∷ xs)) ≡ none
     go (inl p) ih =
-        let u : some x.name ≡ none = rw p at e in
-        let z : ◌≡◌ {A = ℕ} 0 1 = cc in absurd (omega arith)
+        let u : some x.name ≡ none = rw p at e in cc
     go (inr p) ih = rw (length-keys hs xs, p) (ih (rw p at e))
 
 named-checked : (s : Sizes) (k t i : ℕ) (a : Name) (xs : List Stamped) → NamesOf s k t xs → name_in i xs ≡ some a → (checks s a ≡ none) × (a.kind ≡ k)
-named-checked s k t i a [] o e = let z : ◌≡◌ {A = ℕ} 0 1 = cc in absurd (omega arith)
+named-checked s k t i a [] o e = cc
 named-checked s k t i a (x ∷ xs) o e = go (split (eqb i (length xs))) (named-checked s k x.stamp i a xs o.4)
   where
     go : Split (eqb i (length xs)) → (name_in i xs ≡ some a → (checks s a ≡ none) × (a.kind ≡ k)) → (checks s a ≡ none) × (a.kind ≡ k)
@@ -57,7 +55,7 @@ named-checked s k t i a (x ∷ xs) o e = go (split (eqb i (length xs))) (named-c
     go (inr p) ih = ih (rw p at e)
 
 named-head : (i : ℕ) (a : Name) (hs : List Bytes) (xs : List Stamped) → Covered hs xs → name_in i xs ≡ some a → (f : ℕ) × (entry_number (name_head a) hs ≡ some f)
-named-head i a hs [] c e = let z : ◌≡◌ {A = ℕ} 0 1 = cc in absurd (omega arith)
+named-head i a hs [] c e = cc
 named-head i a hs (x ∷ xs) c e = go (split (eqb i (length xs))) (named-head i a hs xs c.1)
   where
     go : Split (eqb i (length xs)) → (name_in i xs ≡ some a → (f : ℕ) × (entry_number (name_head a) hs ≡ some f)) → (f : ℕ) × (entry_number (name_head a) hs ≡ some f)

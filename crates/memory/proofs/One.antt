@@ -26,12 +26,9 @@ use Rattle.model.proofs.Keys.{length-keys, key-same}
 use Rattle.model.proofs.Unique.{unique}
 use Rattle.memory.specs.Stands.{entry_in, stamp_in, Stands}
 use Rattle.memory.proofs.Probes.{main-below, head-below}
+use Rattle.memory.proofs.Counts.{entry_past}
 
 -- ---- lists known by their numbers
-
-entry_past : (xs : List Bytes) (i : ℕ) → length xs ≤ i → entry_in i xs ≡ none
-entry_past [] i h = refl
-entry_past (x ∷ xs) i h = rw (ne_eqb i (length xs) (λ e. omega arith)) (entry_past xs i (omega arith))
 
 stamp-past : (xs : List Stamped) (i : ℕ) → length xs ≤ i → stamp_in i xs ≡ 0
 stamp-past [] i h = refl
@@ -51,8 +48,7 @@ not-shorter xs (y ∷ ys) same = go (dec_lt (length ys) (length xs))
     go : Dec (length ys < length xs) → length (y ∷ ys) ≤ length xs
     go (yes h) = omega arith
     go (no h) =
-        let e : none ≡ some y = sym (entry_past xs (length ys) (omega arith)) ∙ same (length ys) ∙ entry-newest y ys in
-        let z : ◌≡◌ {A = ℕ} 0 1 = cc in absurd (omega arith)
+        let e : none ≡ some y = sym (entry_past (length ys) xs (omega arith)) ∙ same (length ys) ∙ entry-newest y ys in cc
 
 same_length : (xs ys : List Bytes) → ((i : ℕ) → entry_in i xs ≡ entry_in i ys) → length xs ≡ length ys
 same_length xs ys same = omega (arith, not-shorter xs ys same, not-shorter ys xs (λ i. sym (same i)))
@@ -71,7 +67,7 @@ entries-one (x ∷ xs) (y ∷ ys) same =
     long = let l : length (x ∷ xs) ≡ length (y ∷ ys) = same_length (x ∷ xs) (y ∷ ys) same in omega arith
 
     older : (i : ℕ) → Dec (i ≡ length xs) → entry_in i xs ≡ entry_in i ys
-    older i (yes e) = entry_past xs i (omega arith) ∙ sym (entry_past ys i (omega (arith, long)))
+    older i (yes e) = entry_past i xs (omega arith) ∙ sym (entry_past i ys (omega (arith, long)))
     older i (no q) = rw (ne_eqb i (length xs) q, ne_eqb i (length ys) (λ e. q (e ∙ sym long))) at (same i)
 
 -- Names of a kind are known by their keys and their stamps.
@@ -80,8 +76,8 @@ module _ (s : Sizes) (R : InRange s) (hs : List Bytes) (few : length hs ≤ s.e)
       → ((row k).paired ≡ true → Covered hs xs) → ((row k).paired ≡ true → Covered hs ys)
       → keys_of hs xs ≡ keys_of hs ys → ((i : ℕ) → stamp_in i xs ≡ stamp_in i ys) → xs ≡ ys
   names-one t u [] [] o p c d keys same = refl
-  names-one t u [] (y ∷ ys) o p c d keys same = let z : ◌≡◌ {A = ℕ} 0 1 = cc in absurd (omega arith)
-  names-one t u (x ∷ xs) [] o p c d keys same = let z : ◌≡◌ {A = ℕ} 0 1 = cc in absurd (omega arith)
+  names-one t u [] (y ∷ ys) o p c d keys same = cc
+  names-one t u (x ∷ xs) [] o p c d keys same = cc
   names-one t u (x ∷ xs) (y ∷ ys) o p c d keys same =
       let key : key_of hs x.name ≡ key_of hs y.name = cc in
       let name : x.name ≡ y.name =

@@ -6,11 +6,13 @@ ghost use Rattle.std.specs.Prelude.{◌≡◌, ◌+◌, ◌*◌, ◌%◌, ◌^�
 ghost use Rattle.layout.specs.Sizes.{InRange, kinds, list_bytes};
 ghost use Rattle.meta_dv_dict.specs.Answers.{Globals, Locals};
 
-use blocks::{Held, LocalId};
+use blocks::LocalId;
 use layout::{KINDS, OWNERS, Sizes};
+use refusals::Refusal;
+use words::WORD;
 
 // A number across the kinds.
-#[derive(Clone, Copy)]
+#[derive(Clone, Copy, Debug, PartialEq, Eq)]
 pub struct GlobalId(pub usize);
 
 // The global number of a local number that is in the block g.
@@ -25,39 +27,35 @@ pub fn number_in(s: Sizes, g: usize, local: LocalId) -> GlobalId
     GlobalId(number)
 }
 
-// A global number. Bad: the memory is no dictionary's.
-#[derive(Clone, Copy)]
-pub enum Number {
-    Global(GlobalId),
-    Bad,
-}
-
-// The global number of the kind k's local number.
-pub fn local_to_global(lists: &[u8], s: Sizes, k: usize, local: LocalId) -> Number
+// The global number of the kind k's local number. Unopened: the memory is no dictionary's.
+pub fn local_to_global(
+    lists: &[u8],
+    s: Sizes,
+    k: usize,
+    local: LocalId,
+) -> Result<GlobalId, Refusal>
     requires { InRange s × (list_bytes s ≤ length lists.now) × (k < kinds) }
     ensures { Globals s lists.now k local.0 result }
 {
     let n = local.0;
     let l = n / blocks::block_size(s);
     if s.b <= l {
-        return Number::Bad;
+        return Err(Refusal::Unopened);
     }
-    let Held::In(g) = blocks::held_in(lists, s, k, l) else {
-        return Number::Bad;
-    };
-    Number::Global(number_in(s, g, local))
+    let g = blocks::held_in(lists, s, k, l)?;
+    Ok(number_in(s, g, local))
 }
 
-// What the block of a global number says of it. Bad: the memory is no dictionary's.
+// What the block of a global number says of it: its kind, and its number within the kind.
 #[derive(Clone, Copy)]
-pub enum Owner {
-    Local(usize, LocalId),
-    Free,
-    Bad,
+pub struct Owner {
+    pub kind: usize,
+    pub local: LocalId,
 }
 
-// The kind and the local number of a global number, by its block. The kind's count tells whether a name has it.
-pub fn global_to_local(lists: &[u8], s: Sizes, number: GlobalId) -> Owner
+// The kind and the local number of a global number, by its block. The kind's count tells whether a name has it. None: its block is free. Unopened: the memory
+// is no dictionary's.
+pub fn global_to_local(lists: &[u8], s: Sizes, number: GlobalId) -> Result<Option<Owner>, Refusal>
     requires { InRange s × (list_bytes s ≤ length lists.now) }
     ensures { Locals s lists.now number.0 result }
 {
@@ -66,22 +64,22 @@ pub fn global_to_local(lists: &[u8], s: Sizes, number: GlobalId) -> Owner
     let g = n / size;
     let b = s.b;
     if b <= g {
-        return Owner::Free;
+        return Ok(None);
     }
-    let x = words::word_at(lists, layout::blocks_at(s, KINDS) + g);
+    let x = words::number_at::<WORD>(lists, layout::blocks_at(s, KINDS) + g);
     if x == 0 {
-        return Owner::Free;
+        return Ok(None);
     }
-    let k = (x - 1) % OWNERS;
+    let kind = (x - 1) % OWNERS;
     let l = (x - 1) / OWNERS;
-    if KINDS <= k {
-        return Owner::Bad;
+    if KINDS <= kind {
+        return Err(Refusal::Unopened);
     }
     if b <= l {
-        return Owner::Bad;
+        return Err(Refusal::Unopened);
     }
     let rest = n % size;
     let start = l * size;
-    let local = start + rest;
-    Owner::Local(k, LocalId(local))
+    let local = LocalId(start + rest);
+    Ok(Some(Owner { kind, local }))
 }

@@ -2,7 +2,6 @@
 use Prim.Native.Nat.{ℕ}
 use mathlib.Core.Path.{◌≡◌, refl}
 use mathlib.Core.Option.{Option, none, some}
-use native.Mathlib.Omega.{arith}
 use Rattle.refusals.specs.declared.Refusal.{Refusal}
 use Rattle.refusals.specs.declared.Refusal.TheVariants.{NoBlock}
 use Rattle.layout.specs.declared.Sizes.{Sizes}
@@ -25,19 +24,19 @@ module _ (s : Sizes) (st : State) (a : Name) where
     where
       go4 : checks s a ≡ none → number_of s st a ≡ none → room s st a ≡ none → (o : Option ℕ) → pick s st.blocks a.kind ≡ o → decide_block o ≡ enter g
           → Entering s st a g
-      go4 c n r none p q = let z : ◌≡◌ {A = ℕ} 0 1 = cc in absurd (omega arith)
+      go4 c n r none p q = cc
       go4 c n r (some h) p q = let u : h ≡ g = cc in record { legal = c; new = n; roomy = r; block = rw u at p }
 
       go3 : checks s a ≡ none → number_of s st a ≡ none → (o : Option Refusal) → room s st a ≡ o → decide_room s st a o ≡ enter g → Entering s st a g
-      go3 c n (some i) p q = let z : ◌≡◌ {A = ℕ} 0 1 = cc in absurd (omega arith)
+      go3 c n (some i) p q = cc
       go3 c n none p q = go4 c n p (pick s st.blocks a.kind) refl q
 
       go2 : checks s a ≡ none → (o : Option ℕ) → number_of s st a ≡ o → decide_known s st a o ≡ enter g → Entering s st a g
-      go2 c (some i) p q = let z : ◌≡◌ {A = ℕ} 0 1 = cc in absurd (omega arith)
+      go2 c (some i) p q = cc
       go2 c none p q = go3 c p (room s st a) refl q
 
       go1 : (o : Option Refusal) → checks s a ≡ o → decide_checked s st a o ≡ enter g → Entering s st a g
-      go1 (some i) p q = let z : ◌≡◌ {A = ℕ} 0 1 = cc in absurd (omega arith)
+      go1 (some i) p q = cc
       go1 none p q = go2 p (number_of s st a) refl q
 
   pub finding : (n : ℕ) → decide s st a ≡ found n → number_of s st a ≡ some n
@@ -45,11 +44,11 @@ module _ (s : Sizes) (st : State) (a : Name) where
   finding n e = go1 (checks s a) e
     where
       go4 : (o : Option ℕ) → decide_block o ≡ found n → number_of s st a ≡ some n
-      go4 none q = let z : ◌≡◌ {A = ℕ} 0 1 = cc in absurd (omega arith)
-      go4 (some h) q = let z : ◌≡◌ {A = ℕ} 0 1 = cc in absurd (omega arith)
+      go4 none q = cc
+      go4 (some h) q = cc
 
       go3 : (o : Option Refusal) → decide_room s st a o ≡ found n → number_of s st a ≡ some n
-      go3 (some i) q = let z : ◌≡◌ {A = ℕ} 0 1 = cc in absurd (omega arith)
+      go3 (some i) q = cc
       go3 none q = go4 (pick s st.blocks a.kind) q
 
       go2 : (o : Option ℕ) → number_of s st a ≡ o → decide_known s st a o ≡ found n → number_of s st a ≡ some n
@@ -57,7 +56,7 @@ module _ (s : Sizes) (st : State) (a : Name) where
       go2 none p q = go3 (room s st a) q
 
       go1 : (o : Option Refusal) → decide_checked s st a o ≡ found n → number_of s st a ≡ some n
-      go1 (some i) q = let z : ◌≡◌ {A = ℕ} 0 1 = cc in absurd (omega arith)
+      go1 (some i) q = cc
       go1 none q = go2 (number_of s st a) refl q
 
   -- ---- each decision, from what led to it

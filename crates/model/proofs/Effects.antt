@@ -5,7 +5,6 @@ use mathlib.Core.Logic.{inl, inr}
 use mathlib.Core.Bool.{cond}
 use mathlib.Core.List.{List, ◌∷◌}
 use mathlib.Core.Option.{none, some}
-use native.Mathlib.Omega.{arith}
 use borrow.Author.Tests.{eq-eqb, ne_eqb}
 use native.Mathlib.Decide.{ℕ_discrete}
 use lib.ListN.{length}
@@ -52,8 +51,7 @@ module _ (s : Sizes) (st : State) (G : Good s st) where
       go (inl p) =
           let u : a ≡ b = name-true a b p in
           let v : number_of s st a ≡ none = rw u e.new in
-          let z : some n ≡ none = sym h ∙ v in
-          let y : ◌≡◌ {A = ℕ} 0 1 = cc in absurd (omega arith)
+          let z : some n ≡ none = sym h ∙ v in cc
       go (inr p) = rw p h
 
   -- A number stays through every add.

@@ -47,7 +47,7 @@ opened-good s r = record {
 
 no_local : (w : ℕ) (b : Blocks) (k : ℕ) (o : Option ℕ) → global_of w b k o ≡ none → o ≡ none
 no_local w b k none e = refl
-no_local w b k (some n) e = let z : ◌≡◌ {A = ℕ} 0 1 = cc in absurd (omega arith)
+no_local w b k (some n) e = cc
 
 module _ (s : Sizes) (st : State) (a : Name) (g : ℕ) (G : Good s st) (e : Entering s st a g) where
   pub may : May s.w st.blocks a.kind g × (g < s.b)

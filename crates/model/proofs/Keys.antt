@@ -27,7 +27,7 @@ use Rattle.model.proofs.Parts.{is-none, is_some}
 -- ---- one dictionary
 
 pub entry_lt : (b : Bytes) (xs : List Bytes) (f : ℕ) → entry_number b xs ≡ some f → f < length xs
-entry_lt b [] f e = let z : ◌≡◌ {A = ℕ} 0 1 = cc in absurd (omega arith)
+entry_lt b [] f e = cc
 entry_lt b (x ∷ xs) f e = go (split (same_bytes b x)) (entry_lt b xs f)
   where
     go : Split (same_bytes b x) → (entry_number b xs ≡ some f → f < length xs) → f < length (x ∷ xs)
@@ -37,7 +37,7 @@ entry_lt b (x ∷ xs) f e = go (split (same_bytes b x)) (entry_lt b xs f)
     go (inr p) ih = let h : f < length xs = ih (rw p at e) in omega arith
 
 pub entry-same : (b c : Bytes) (xs : List Bytes) (f : ℕ) → entry_number b xs ≡ some f → entry_number c xs ≡ some f → b ≡ c
-entry-same b c [] f d e = let z : ◌≡◌ {A = ℕ} 0 1 = cc in absurd (omega arith)
+entry-same b c [] f d e = cc
 entry-same b c (x ∷ xs) f d e = go (split (same_bytes b x)) (split (same_bytes c x)) (entry-same b c xs f)
   where
     go : Split (same_bytes b x) → Split (same_bytes c x)
@@ -116,8 +116,7 @@ not_there a hs (x ∷ xs) c e = go (split (same_name a x.name)) (not_there a hs 
     go : Split (same_name a x.name) → local_of a xs ≡ none → local_of a (x ∷ xs) ≡ none
     go (inl p) ih =
         let u : entry_number (name_head x.name) hs ≡ none = rw (← name-true a x.name p) e in
-        let v : none ≡ some c.0.0 = sym u ∙ c.0.1 in
-        let z : ◌≡◌ {A = ℕ} 0 1 = cc in absurd (omega arith)
+        let v : none ≡ some c.0.0 = sym u ∙ c.0.1 in cc
     go (inr p) ih = rw p ih
 
 module _ (s : Sizes) (R : InRange s) (a : Name) (t n : ℕ) (pt : Part) (G : GoodPart s a.kind t n pt) (legal : checks s a ≡ none) where
@@ -137,8 +136,7 @@ key-stays h hs b f e c = go (split (same_bytes (name_head b) h))
     go : Split (same_bytes (name_head b) h) → key_of (h ∷ hs) b ≡ key_of hs b
     go (inl p) =
         let u : entry_number h hs ≡ some f = rw (← bytes-true (name_head b) h p) c in
-        let v : none ≡ some f = sym e ∙ u in
-        let z : ◌≡◌ {A = ℕ} 0 1 = cc in absurd (omega arith)
+        let v : none ≡ some f = sym e ∙ u in cc
     go (inr p) = rw (p, c)
 
 keys-stay : (h : Bytes) (hs : List Bytes) (xs : List Stamped) → entry_number h hs ≡ none → Covered hs xs → keys_of (h ∷ hs) xs ≡ keys_of hs xs

@@ -1,5 +1,5 @@
 -- What is known of a name that passes the checks. Assumes nothing.
-use Prim.Native.Nat.{ℕ, ◌<◌, ◌≤◌}
+use Prim.Native.Nat.{◌<◌, ◌≤◌}
 use mathlib.Core.Path.{◌≡◌, refl, sym, ◌∙◌}
 use mathlib.Core.Bool.{true, false, ◌&&◌, not, false≢true}
 use mathlib.Core.List.{[], ◌∷◌}
@@ -57,7 +57,7 @@ both-pass s a e = go (shape_refusal s a) refl
   where
     go : (o : Option Refusal) → shape_refusal s a ≡ o → (shape_refusal s a ≡ none) × (text_refusal a ≡ none)
     go none h = (h, sym (text-decides s a h) ∙ e)
-    go (some why) h = let z : ◌≡◌ {A = ℕ} 0 1 = cc (e, shape-refused s a why h) in absurd (omega arith)
+    go (some why) h = cc (e, shape-refused s a why h)
 
 pub record Legal (s : Sizes) (a : Name) : Type 0 where
   pub shape : LegalShape s a

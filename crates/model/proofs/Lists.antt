@@ -4,7 +4,6 @@ use mathlib.Core.Path.{◌≡◌, refl, sym, ap, ◌∙◌}
 use mathlib.Core.Logic.{◌↔◌, inl, inr, ⊎_map}
 use mathlib.Core.List.{List, [], ◌∷◌, ◌++◌}
 use mathlib.Core.Option.{Option, none, some}
-use native.Mathlib.Omega.{arith}
 use borrow.Author.Tests.{lt-leb, le-leb}
 use lib.ListN.{length, drop}
 use Rattle.slices.specs.Bytes.{Bytes}
@@ -130,8 +129,7 @@ module _ (s : Sizes) (st : State) (G : Good s st) (o : Before) (S : Starts s st 
     later xs a r n m c (inl e) g =
         let t : (r ≡ add_answer s (now xs) a) × Model s st xs = at (add a r) xs es h c in
         let p : number_of s (now xs) a ≡ some m = given a m xs t.1 g in
-        let q : number_of s (now xs) a ≡ none = (did s (now xs) (add a (AddAnswer.fresh n)) (sym e ∙ t.0)).1.new in
-        cc
+        let q : number_of s (now xs) a ≡ none = (did s (now xs) (add a (AddAnswer.fresh n)) (sym e ∙ t.0)).1.new in cc
     later xs a r n m c (inr e) g =
         let t : (r ≡ add_answer s (now xs) a) × Model s st xs = at (add a r) xs es h c in
         let p : number_of s (now xs) a ≡ some m = given a m xs t.1 g in
@@ -211,7 +209,7 @@ pub opened-starts : (s : Sizes) → Starts s opened (nothing s)
 unfolding number_of
 opened-starts s = record {
   given = λ a n e. absurd e;
-  had = λ a n e. let z : ◌≡◌ {A = ℕ} 0 1 = cc in omega arith;
+  had = λ a n e. cc;
   count = λ k. refl;
   rule = λ ks k. rule-steps s ks k;
 }

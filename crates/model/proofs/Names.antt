@@ -33,7 +33,7 @@ name-same a = rw (eq-eqb a.kind a.kind refl, bytes_same a.first) (bytes_same a.s
 -- ---- local numbers
 
 pub local-lt : (a : Name) (xs : List Stamped) (n : ℕ) → local_of a xs ≡ some n → n < length xs
-local-lt a [] n e = let z : ◌≡◌ {A = ℕ} 0 1 = cc in absurd (omega arith)
+local-lt a [] n e = cc
 local-lt a (x ∷ xs) n e = go (split (same_name a x.name)) (local-lt a xs n)
   where
     go : Split (same_name a x.name) → (local_of a xs ≡ some n → n < length xs) → n < length (x ∷ xs)
@@ -59,7 +59,7 @@ name_back a (x ∷ xs) n e = go (split (same_name a x.name)) (name_back a xs n)
 
 -- And the name at a local number has it.
 pub local_back : (s : Sizes) (k t : ℕ) (a : Name) (xs : List Stamped) (n : ℕ) → NamesOf s k t xs → name_in n xs ≡ some a → (local_of a xs ≡ some n) × (a.kind ≡ k)
-local_back s k t a [] n o e = let z : ◌≡◌ {A = ℕ} 0 1 = cc in absurd (omega arith)
+local_back s k t a [] n o e = cc
 local_back s k t a (x ∷ xs) n o e = go (split (eqb n (length xs))) (split (same_name a x.name)) (local_back s k x.stamp a xs n o.4)
   where
     go : Split (eqb n (length xs)) → Split (same_name a x.name)
@@ -73,6 +73,5 @@ local_back s k t a (x ∷ xs) n o e = go (split (eqb n (length xs))) (split (sam
         let r : (local_of a xs ≡ some n) × (a.kind ≡ k) = ih (rw p at e) in
         let u : a ≡ x.name = name-true a x.name q in
         let v : local_of a xs ≡ none = rw u o.2 in
-        let y : some n ≡ none = sym r.0 ∙ v in
-        let z : ◌≡◌ {A = ℕ} 0 1 = cc in absurd (omega arith)
+        let y : some n ≡ none = sym r.0 ∙ v in cc
     go (inr p) (inr q) ih = rw q (ih (rw p at e))

@@ -29,7 +29,7 @@ module _ (s : Sizes) (st : State) (G : Good s st) where
   read_back a n e = go (local_of a (st.part a.kind).names) refl e
     where
       go : (o : Option ℕ) → local_of a (st.part a.kind).names ≡ o → global_of s.w st.blocks a.kind o ≡ some n → name_of s st n ≡ some a
-      go none p q = let z : ◌≡◌ {A = ℕ} 0 1 = cc in absurd (omega arith)
+      go none p q = cc
       go (some i) p q =
           let m : n ≡ global s.w st.blocks a.kind i = cc in
           let t = to-local s.w st.blocks G.sound a.kind i (below_next a.kind a i p) in
@@ -41,7 +41,7 @@ module _ (s : Sizes) (st : State) (G : Good s st) where
   number-back a n e = go (st.blocks.owner (n / 2 ^ s.w)) refl e
     where
       go : (o : Block) → st.blocks.owner (n / 2 ^ s.w) ≡ o → name_at s.w st n o ≡ some a → number_of s st a ≡ some n
-      go free p q = let z : ◌≡◌ {A = ℕ} 0 1 = cc in absurd (omega arith)
+      go free p q = cc
       go (held k l) p q =
           let i : ℕ = l * 2 ^ s.w + n % 2 ^ s.w in
           let r : (local_of a (st.part k).names ≡ some i) × (a.kind ≡ k) = local_back s k _ a (st.part k).names i (G.part k).names q in

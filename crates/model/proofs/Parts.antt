@@ -55,10 +55,10 @@ covered_more x hs (y ∷ xs) c = (head-known (name_head y.name) x hs c.0.0 c.0.1
 
 pub is-none : (o : Option ℕ) → is_none o ≡ true → o ≡ none
 is-none none e = refl
-is-none (some f) e = let z : ◌≡◌ {A = ℕ} 0 1 = cc in absurd (omega arith)
+is-none (some f) e = cc
 
 pub is_some : (o : Option ℕ) → is_none o ≡ false → (f : ℕ) × (o ≡ some f)
-is_some none e = let z : ◌≡◌ {A = ℕ} 0 1 = cc in absurd (omega arith)
+is_some none e = cc
 is_some (some f) e = (f, refl)
 
 -- ---- a kind's part

@@ -37,7 +37,7 @@ pub fn namedict_split_iri(iri: &[u8]) -> u64
 pub fn namedict_write_fid(value: u64, buffer: &mut [u8]) -> NamedictWritten
     ensures { (result ≡ written_numbers (write_fid_answer value (length buffer.old))) × (buffer.new ≡ write_fid_buffer value buffer.old) }
 {
-    leaf_numbers::written_numbers(ranked_pair_dictionary::write_frequent_id(value as usize, buffer))
+    NamedictWritten::from(ranked_pair_dictionary::write_frequent_id(value as usize, buffer))
 }
 
 // Reads the frequent id in front of the bytes.
@@ -45,7 +45,7 @@ pub fn namedict_read_fid(bytes: &[u8]) -> NamedictValue
     ensures value { result ≡ value_numbers (read_fid_answer bytes.now) }
     ensures kept { bytes.exit.now ≡ bytes.entry.now }
 {
-    leaf_numbers::value_numbers(ranked_pair_dictionary::read_frequent_id(bytes))
+    NamedictValue::from(ranked_pair_dictionary::read_frequent_id(bytes))
 }
 
 // Packs a text and its tag at the buffer's start.
@@ -53,7 +53,7 @@ pub fn namedict_pack(text: &[u8], tag: &[u8], buffer: &mut [u8]) -> NamedictWrit
     ensures value { (result ≡ written_numbers (pack_answer text.now tag.now (length buffer.old))) × (buffer.new ≡ pack_buffer text.now tag.now buffer.old) }
     ensures kept { (text.exit.now ≡ text.entry.now) × (tag.exit.now ≡ tag.entry.now) }
 {
-    leaf_numbers::written_numbers(string_dv_dict::two_strings_to_one(text, tag, buffer))
+    NamedictWritten::from(string_dv_dict::two_strings_to_one(text, tag, buffer))
 }
 
 // Unpacks a form: the text at the buffer's start, the tag behind it.
@@ -61,7 +61,7 @@ pub fn namedict_unpack(packed: &[u8], buffer: &mut [u8]) -> NamedictUnpacked
     ensures value { (result ≡ unpacked_numbers (unpack_answer packed.now (length buffer.old))) × (buffer.new ≡ unpack_buffer packed.now buffer.old) }
     ensures kept { packed.exit.now ≡ packed.entry.now }
 {
-    leaf_numbers::unpacked_numbers(string_dv_dict_unpack::one_string_to_two(packed, buffer))
+    NamedictUnpacked::from(string_dv_dict_unpack::one_string_to_two(packed, buffer))
 }
 
 // ---- the dictionary
@@ -101,7 +101,7 @@ pub fn namedict_add<'a>(
     ensures value { AddReturned pages.old lists.old (entered kind first.now second.now) result pages.new lists.new }
     ensures kept { (first.exit.now ≡ first.entry.now) × (second.exit.now ≡ second.entry.now) }
 {
-    numbers::add_numbers(dictionary::add(pages, lists, kind as usize, first, second))
+    NamedictNumbered::from(dictionary::add(pages, lists, kind as usize, first, second))
 }
 
 // The number that a name has.
@@ -115,19 +115,19 @@ pub fn namedict_find<'a>(
     ensures value { FindReturned pages.entry.now lists.entry.now (entered kind first.now second.now) result pages.exit.now lists.exit.now }
     ensures kept { (first.exit.now ≡ first.entry.now) × (second.exit.now ≡ second.entry.now) }
 {
-    numbers::find_numbers(dictionary_find::find(pages, lists, kind as usize, first, second))
+    NamedictNumbered::from(dictionary_find::find(pages, lists, kind as usize, first, second))
 }
 
 // The name that has a number: its parts at the buffer's start, one after the other.
 pub fn namedict_read(pages: &[u8], lists: &[u8], number: u64, buffer: &mut [u8]) -> NamedictName
     ensures { ReadReturned pages.entry.now lists.entry.now number buffer.old result buffer.new pages.exit.now lists.exit.now }
 {
-    numbers::name_numbers(dictionary_read::read(pages, lists, GlobalId(number as usize), buffer))
+    NamedictName::from(dictionary_read::read(pages, lists, GlobalId(number as usize), buffer))
 }
 
 // How many names of a kind there are.
 pub fn namedict_count(pages: &[u8], lists: &[u8], kind: u64) -> NamedictCounted
     ensures { CountReturned pages.entry.now lists.entry.now kind result pages.exit.now lists.exit.now }
 {
-    numbers::count_numbers(dictionary_read::count(pages, lists, kind as usize))
+    NamedictCounted::from(dictionary_read::count(pages, lists, kind as usize))
 }

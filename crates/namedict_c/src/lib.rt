@@ -1,4 +1,6 @@
 // The exported entries, for C and Rust: each is the entry of the same name, with the same contract. include/namedict.h declares them.
+// Kept: each entry stands here and in `namedict`. For the C interface an export has to be in a static library, and no crate may use one, so the programs call
+// `namedict`.
 #![tactic(auto)]
 
 ghost use Rattle.std.specs.Prelude.{◌≡◌, length};

@@ -4,11 +4,11 @@ use mathlib.Core.Path.{◌≡◌, refl, sym, ap, ◌∙◌}
 use mathlib.Core.Logic.{inl, inr}
 use mathlib.Core.Bool.{true, cond, false≢true}
 use native.Mathlib.Omega.{arith}
+use Rattle.std.specs.Prelude.{Option}
 use lib.ListN.{length, take, drop, length-drop}
 use lib.Seq.{take_all}
 use Rattle.slices.specs.Bytes.{Bytes}
 use Rattle.slices.proofs.Tests.{Split, split}
-use Rattle.ranked_pair_iri_dv_dict.specs.declared.Head.{Head}
 use Rattle.ranked_pair_iri_dv_dict.specs.Split.{head_length, head_of, length_of}
 use Rattle.ranked_pair_iri_dv_dict.proofs.Laws.{head-length, head-le}
 use Rattle.layout.specs.Sizes.{kinds}
@@ -18,11 +18,11 @@ use Rattle.kind_table.specs.Rows.{is_split}
 use Rattle.names.specs.Given.{IsPair, head_size, rest_behind}
 
 -- The answer h of the split says how long the head is.
-split_at : (iri : Bytes) (h : Head) → h ≡ head_of iri → length_of h ≡ head_length iri
+split_at : (iri : Bytes) (h : Option ℕ) → h ≡ head_of iri → length_of h ≡ head_length iri
 split_at iri h e = ap length_of e ∙ head-length iri
 
 -- Head and rest of a first part that splits, by the answer of the split.
-pub iri-head : (k : ℕ) (iri : Bytes) (h : Head) → is_split (row k).way ≡ true → h ≡ head_of iri → (length_of h ≡ head_size k iri) × (length_of h ≤ length iri)
+pub iri-head : (k : ℕ) (iri : Bytes) (h : Option ℕ) → is_split (row k).way ≡ true → h ≡ head_of iri → (length_of h ≡ head_size k iri) × (length_of h ≤ length iri)
 iri-head k iri h z e =
     let f = split_at iri h e in
     rw z (f, omega (arith, f, head-le iri))

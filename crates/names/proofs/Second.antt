@@ -1,13 +1,8 @@
 -- The second part of a name: where there is none. Assumes nothing.
-use mathlib.Core.Path.{◌≡◌, refl}
+use mathlib.Core.Path.{◌≡◌}
 use mathlib.Core.Bool.{true}
-use mathlib.Core.List.{[], ◌∷◌}
+use mathlib.Core.List.{[]}
 use mathlib.Core.Option.{none}
-use native.Mathlib.Omega.{arith}
-use borrow.Author.Tests.{ne_eqb}
-use lib.Dec.{eqb}
-use lib.ListN.{length}
-use Rattle.slices.specs.Bytes.{Bytes, is_empty}
 use Rattle.layout.specs.declared.Sizes.{Sizes}
 use Rattle.model.specs.Names.{Name}
 use Rattle.model.specs.Kinds.{row}
@@ -18,7 +13,3 @@ use Rattle.model.proofs.Legal.{legal-shape}
 -- A name of legal shape has no second part where nothing of it would be stored.
 pub shape-second : (s : Sizes) (a : Name) → shape_refusal s a ≡ none → first_only (row a.kind).way ≡ true → a.second ≡ []
 shape-second s a e o = (legal-shape s a e).second (no_second-row a.kind o)
-
-pub empty-by-length : (x : Bytes) → eqb (length x) 0 ≡ is_empty x
-empty-by-length [] = refl
-empty-by-length (a ∷ x) = ne_eqb (length (a ∷ x)) 0 (λ e. omega arith)

@@ -11,10 +11,10 @@ ghost use Rattle.names.specs.Given.{head_size, rest_behind};
 use blocks::LocalId;
 use bytes_dictionary::EntryId;
 use layout::{KINDS, Sizes};
-use ranked_pair_iri_dv_dict::Head;
-use refusals::{Checked, Refusal};
+use refusals::Refusal;
 
 // A name's local number is the number of its entry in the kind's main dictionary.
+// Kept: two functions, for From is no plainer. It has to stand beside one of the two types, and neither type's crate knows the other.
 pub fn entry_to_local(id: EntryId) -> LocalId
     ensures { result.0 ≡ id.0 }
 {
@@ -30,23 +30,21 @@ pub fn local_to_entry(local: LocalId) -> EntryId
 fn is_bad_kind(kind: usize, second: &[u8]) -> bool
     ensures { result ≡ bad_kind (entered kind [] second.now) }
 {
-    if KINDS <= kind {
-        return true;
-    }
-    kind_table::row_of(kind).no_second && second.len() != 0
+    KINDS <= kind || kind_table::row_of(kind).no_second && !second.is_empty()
 }
 
 // Refusals 4 and 5 of a name. How long a name may be is asked of the sizes.
-pub fn check_shape(s: Sizes, kind: usize, first: &[u8], second: &[u8]) -> Checked
+#[tactic(auto, unfolding(model::specs::Steps::shape_refusal))]
+pub fn check_shape(s: Sizes, kind: usize, first: &[u8], second: &[u8]) -> Result<(), Refusal>
     ensures { result ≡ checked_by (shape_refusal s (entered kind first.now second.now)) }
 {
     if is_bad_kind(kind, second) {
-        return Checked::Illegal(Refusal::BadKind);
+        return Err(Refusal::BadKind);
     }
     if s.limit() < first.len() + second.len() {
-        return Checked::Illegal(Refusal::TooLong);
+        return Err(Refusal::TooLong);
     }
-    Checked::Legal
+    Ok(())
 }
 
 // Whether both parts are text. `ascii`: the caller knows already that they are.
@@ -54,27 +52,22 @@ fn are_text(first: &[u8], second: &[u8], ascii: bool) -> bool
     requires { ascii ≡ true → (is_text first.now ≡ true) × (is_text second.now ≡ true) }
     ensures { result ≡ (is_text first.now && is_text second.now) }
 {
-    if ascii {
-        return true;
-    }
-    if !utf8::is_text(first) {
-        return false;
-    }
-    utf8::is_text(second)
+    ascii || utf8::is_text(first) && utf8::is_text(second)
 }
 
 // Refusals 6 and 7 of a name. `ascii`: the caller has seen every byte of the name, and all are ASCII.
-pub fn check_text(kind: usize, first: &[u8], second: &[u8], ascii: bool) -> Checked
+#[tactic(auto, unfolding(model::specs::Steps::text_refusal))]
+pub fn check_text(kind: usize, first: &[u8], second: &[u8], ascii: bool) -> Result<(), Refusal>
     requires { ascii ≡ true → (is_text first.now ≡ true) × (is_text second.now ≡ true) }
     ensures { result ≡ checked_by (text_refusal (entered kind first.now second.now)) }
 {
     if !are_text(first, second, ascii) {
-        return Checked::Illegal(Refusal::NotText);
+        return Err(Refusal::NotText);
     }
-    if kind_table::row_of(kind).needs_tag && second.len() == 0 {
-        return Checked::Illegal(Refusal::NoTag);
+    if kind_table::row_of(kind).needs_tag && second.is_empty() {
+        return Err(Refusal::NoTag);
     }
-    Checked::Legal
+    Ok(())
 }
 
 // How many bytes of a name's first part are its head, where its kind has heads.
@@ -84,8 +77,8 @@ pub fn head_length(kind: usize, first: &[u8]) -> usize
     if !kind_table::is_split(kind) {
         return first.len();
     }
-    let head = ranked_pair_iri_dv_dict::rfind_hashslash_plus(first);
-    let Head::Length(n) = head else {
+    // Kept: `let .. else` on the split's answer is a form that document 01 names.
+    let Some(n) = ranked_pair_iri_dv_dict::rfind_hashslash_plus(first) else {
         return 0;
     };
     n

@@ -9,13 +9,13 @@ ghost use Rattle.dictionary_find.specs.Answers.{found_by};
 ghost use Rattle.dictionary_read.specs.Answers.{told_by, counted_by};
 ghost use Rattle.numbers.specs.Numbers.{open_number, refused_numbers, add_numbers, find_numbers, name_numbers, count_numbers};
 
-use commit::AddResult;
-use dictionary_find::FindResult;
-use dictionary_open::OpenResult;
-use dictionary_read::{CountResult, ReadResult};
+use commit::Added;
+use dictionary_read::Told;
+use meta_dv_dict::GlobalId;
 use refusals::Refusal;
 
 // What add and find return. The word says which answer: 0 none, 1 fresh, 2 known.
+// Kept: the C interface returns structs of numbers, here and below.
 #[repr(C)]
 #[derive(Clone, Copy)]
 pub struct NamedictNumbered {
@@ -53,12 +53,13 @@ const KNOWN: u64 = 2;
 const NAME: u64 = 4;
 
 // 0 for done.
-pub fn open_number(answer: OpenResult) -> u64
+// Kept: a function. `From` has to stand beside one of its two types, and both are std's: `Result` and `u64`.
+pub fn open_number(answer: Result<(), Refusal>) -> u64
     ensures { result ≡ open_number (opened_by answer) }
 {
     match answer {
-        OpenResult::Done => 0,
-        OpenResult::Refused(why) => refusals::number(why),
+        Ok(()) => 0,
+        Err(why) => u64::from(why),
     }
 }
 
@@ -72,79 +73,93 @@ fn numbered(word: u64, number: u64) -> NamedictNumbered
     }
 }
 
-fn refused_numbers(why: Refusal) -> NamedictNumbered
-    ensures { result ≡ refused_numbers why }
-{
-    NamedictNumbered {
-        refusal: refusals::number(why),
-        word: 0,
-        number: 0,
-    }
-}
+impl From<Refusal> for NamedictNumbered {
+    ghost from_gives = { λ why r. r ≡ refused_numbers why };
 
-pub fn add_numbers(answer: AddResult) -> NamedictNumbered
-    ensures { result ≡ add_numbers (added_by answer) }
-{
-    match answer {
-        AddResult::Fresh(x) => numbered(FRESH, x.0 as u64),
-        AddResult::Known(x) => numbered(KNOWN, x.0 as u64),
-        AddResult::Refused(why) => refused_numbers(why),
-    }
-}
-
-pub fn find_numbers(answer: FindResult) -> NamedictNumbered
-    ensures { result ≡ find_numbers (found_by answer) }
-{
-    match answer {
-        FindResult::Known(x) => numbered(KNOWN, x.0 as u64),
-        FindResult::Nothing => numbered(NONE, 0),
-        FindResult::Refused(why) => refused_numbers(why),
-    }
-}
-
-pub fn name_numbers(answer: ReadResult) -> NamedictName
-    ensures { result ≡ name_numbers (told_by answer) }
-{
-    match answer {
-        ReadResult::Name {
-            kind,
-            first,
-            second,
-        } => NamedictName {
-            refusal: 0,
-            word: NAME,
-            kind: kind as u64,
-            first_len: first as u64,
-            second_len: second as u64,
-        },
-        ReadResult::Nothing => NamedictName {
-            refusal: 0,
-            word: NONE,
-            kind: 0,
-            first_len: 0,
-            second_len: 0,
-        },
-        ReadResult::Refused(why) => NamedictName {
-            refusal: refusals::number(why),
+    fn from(why: Refusal) -> NamedictNumbered {
+        NamedictNumbered {
+            refusal: u64::from(why),
             word: 0,
-            kind: 0,
-            first_len: 0,
-            second_len: 0,
-        },
+            number: 0,
+        }
     }
 }
 
-pub fn count_numbers(answer: CountResult) -> NamedictCounted
-    ensures { result ≡ count_numbers (counted_by answer) }
-{
-    match answer {
-        CountResult::Names(n) => NamedictCounted {
-            refusal: 0,
-            count: n as u64,
-        },
-        CountResult::Refused(why) => NamedictCounted {
-            refusal: refusals::number(why),
-            count: 0,
-        },
+impl From<Result<Added, Refusal>> for NamedictNumbered {
+    ghost from_gives = { λ answer r. r ≡ add_numbers (added_by answer) };
+
+    fn from(answer: Result<Added, Refusal>) -> NamedictNumbered {
+        match answer {
+            Ok(Added::Fresh(x)) => numbered(FRESH, x.0 as u64),
+            Ok(Added::Known(x)) => numbered(KNOWN, x.0 as u64),
+            Err(why) => NamedictNumbered::from(why),
+        }
+    }
+}
+
+impl From<Result<Option<GlobalId>, Refusal>> for NamedictNumbered {
+    ghost from_gives = { λ answer r. r ≡ find_numbers (found_by answer) };
+
+    fn from(answer: Result<Option<GlobalId>, Refusal>) -> NamedictNumbered {
+        match answer {
+            Ok(Some(x)) => numbered(KNOWN, x.0 as u64),
+            Ok(None) => numbered(NONE, 0),
+            Err(why) => NamedictNumbered::from(why),
+        }
+    }
+}
+
+impl From<Result<Option<Told>, Refusal>> for NamedictName {
+    ghost from_gives = { λ answer r. r ≡ name_numbers (told_by answer) };
+
+    fn from(answer: Result<Option<Told>, Refusal>) -> NamedictName {
+        match answer {
+            Ok(
+                Some(
+                    Told {
+                        kind,
+                        first,
+                        second,
+                    },
+                ),
+            ) => NamedictName {
+                refusal: 0,
+                word: NAME,
+                kind: kind as u64,
+                first_len: first as u64,
+                second_len: second as u64,
+            },
+            Ok(None) => NamedictName {
+                refusal: 0,
+                word: NONE,
+                kind: 0,
+                first_len: 0,
+                second_len: 0,
+            },
+            Err(why) => NamedictName {
+                refusal: u64::from(why),
+                word: 0,
+                kind: 0,
+                first_len: 0,
+                second_len: 0,
+            },
+        }
+    }
+}
+
+impl From<Result<usize, Refusal>> for NamedictCounted {
+    ghost from_gives = { λ answer r. r ≡ count_numbers (counted_by answer) };
+
+    fn from(answer: Result<usize, Refusal>) -> NamedictCounted {
+        match answer {
+            Ok(n) => NamedictCounted {
+                refusal: 0,
+                count: n as u64,
+            },
+            Err(why) => NamedictCounted {
+                refusal: u64::from(why),
+                count: 0,
+            },
+        }
     }
 }

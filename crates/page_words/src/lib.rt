@@ -7,14 +7,16 @@ ghost use Rattle.layout.specs.Fields.{page_at};
 ghost use Rattle.page_words.specs.Written.{extended_page, took_page};
 
 use layout::{CURRENT, OWNERS, PAGE_NUMBERS, PAGES, POSITION, STRIDE, TAKEN, UNTAKEN};
+use words::WORD;
 
 // Marks the page as used up to `used`. Its owner and its position stay.
+#[tactic(auto, unfolding(crate::specs::Written::extended_page))]
 pub fn extend(lists: &mut [u8], page: usize, used: usize)
     requires { (8 * page_at page + 8 ≤ length lists.old) × (used < 2097152) }
     ensures { lists.new ≡ extended_page lists.old page used }
 {
-    let w = words::word_at(lists, PAGES + page);
-    words::put_word(
+    let w = words::number_at::<WORD>(lists, PAGES + page);
+    words::put_number::<WORD>(
         lists,
         PAGES + page,
         w % OWNERS + OWNERS * used + POSITION * (w / POSITION),
@@ -22,18 +24,19 @@ pub fn extend(lists: &mut [u8], page: usize, used: usize)
 }
 
 // Makes the page the current one of dictionary d, used up to `used`. The page after it becomes the lowest untaken one.
+#[tactic(auto, unfolding(crate::specs::Written::took_page))]
 pub fn take_page(lists: &mut [u8], d: usize, page: usize, used: usize)
     requires { (8 * page_at page + 8 ≤ length lists.old) × (d < dictionaries) × (used < 2097152) }
     ensures { lists.new ≡ took_page lists.old d page used }
 {
     // While a page is left, a dictionary has fewer than 1,024 pages. So the remainder is the number itself.
-    let taken = words::word_at(lists, TAKEN + STRIDE * d) % PAGE_NUMBERS;
-    words::put_word(
+    let taken = words::number_at::<WORD>(lists, TAKEN + STRIDE * d) % PAGE_NUMBERS;
+    words::put_number::<WORD>(
         lists,
         PAGES + page,
         d + 1 + OWNERS * used + POSITION * taken,
     );
-    words::put_word(lists, TAKEN + STRIDE * d, taken + 1);
-    words::put_word(lists, CURRENT + STRIDE * d, page + 1);
-    words::put_word(lists, UNTAKEN, page + 1);
+    words::put_number::<WORD>(lists, TAKEN + STRIDE * d, taken + 1);
+    words::put_number::<WORD>(lists, CURRENT + STRIDE * d, page + 1);
+    words::put_number::<WORD>(lists, UNTAKEN, page + 1);
 }

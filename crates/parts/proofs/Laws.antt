@@ -1,6 +1,6 @@
 -- How long a stored part is; storing and comparing one part after the other. Assumes nothing.
 use Prim.Native.Nat.{ℕ, suc, ◌+◌, ◌*◌, ◌≤◌, ◌<◌}
-use mathlib.Core.Path.{◌≡◌, refl, ap}
+use mathlib.Core.Path.{◌≡◌, refl, ap, ◌∙◌}
 use mathlib.Core.Logic.{inl, inr, ◌≢◌}
 use mathlib.Core.Bool.{Bool, true, false, ◌&&◌}
 use mathlib.Core.List.{[], ◌∷◌, ◌++◌}
@@ -9,8 +9,12 @@ use native.Mathlib.Omega.{arith}
 use lib.Dec.{eqb}
 use lib.ListN.{length, get_or, take, drop, set, length-append}
 use lib.Seq.{sets, sets-eq}
+use Rattle.std.proofs.lemmas.List.Sums.{sum_by-cons}
+use Rattle.std.specs.List.{fold, sum_by}
 use Rattle.slices.specs.Bytes.{Bytes, same_bytes}
 use Rattle.slices.proofs.Tests.{Split, split}
+use Rattle.fnv.specs.Fnv.{fnv_from}
+use Rattle.fnv.proofs.Laws.{fnv-append}
 use Rattle.encoding.specs.declared.Form.{Form}
 use Rattle.encoding.specs.Encoding.{form_of, encoded_byte, encoded_end, encoded}
 use Rattle.encoding.proofs.Laws.{length-encoded, tag-bytes, encoded-more, encoded-end}
@@ -30,6 +34,20 @@ length-more form i s x l e = rw (encoded-more form i s x l e) (length-append x (
 
 pub length-end : (form : Form) (i : ℕ) (s x : Bytes) → length s ≤ i → x ≡ encoded_end form → length (encoded form (drop i s)) ≡ length x
 length-end form i s x l e = ap length (encoded-end form i s x l e)
+
+-- The length of what is stored is the sum over the bytes, and the end's.
+pub length-sum : (form : Form) (s : Bytes) → length (encoded form s) ≡ sum_by (λ b. length (encoded_byte form b)) s + length (encoded_end form)
+unfolding encoded
+length-sum form [] = omega arith
+length-sum form (b ∷ s) =
+    rw (length-append, sum_by-cons (λ a. length (encoded_byte form a)) b s) (omega (arith, length-sum form s))
+
+-- The hash is taken on over what is stored for each byte, and then over the end.
+pub fnv-fold : (form : Form) (s : Bytes) (h : ℕ)
+    → fnv_from h (encoded form s) ≡ fnv_from (fold (λ a b. fnv_from a (encoded_byte form b)) h s) (encoded_end form)
+unfolding encoded
+fnv-fold form [] h = refl
+fnv-fold form (b ∷ s) h = fnv-append (encoded_byte form b) (encoded form s) h ∙ fnv-fold form s (fnv_from h (encoded_byte form b))
 
 -- ---- storing and comparing, one part after the other
 

@@ -1,12 +1,13 @@
-// A part of a name as it is stored: a slice with a mode. Only the loops of this crate know the modes.
+// A part of a name as it is stored: a slice with a mode. Only this crate knows how a mode is stored.
 #![tactic(auto)]
 
 ghost use Rattle.std.specs.Prelude.{◌≡◌, ◌++◌, ◌+◌, ◌^◌, ◌≤◌, ◌<◌, length, drop};
 ghost use Rattle.std.proofs.lemmas.List.Edits.{sets};
 ghost use Rattle.fnv.specs.Fnv.{fnv_from};
 ghost use Rattle.slices.specs.Bytes.{same_bytes};
-ghost use Rattle.encoding.specs.Encoding.{encoded};
-ghost use Rattle.parts.specs.Parts.{bytes_of};
+ghost use Rattle.encoding.specs.Encoding.{tag_bytes, encoded};
+ghost use Rattle.parts.specs.declared.Mode.TheVariants.{Raw, Tag};
+ghost use Rattle.parts.specs.Parts.{part_bytes};
 
 use encoding::Form;
 
@@ -17,142 +18,175 @@ pub enum Mode {
     Tag,
 }
 
-fn measure_encoded(form: Form, s: &[u8]) -> usize
-    ensures { result ≡ length (encoded form s.now) }
-{
-    let mut n = 0;
-    let mut i = 0;
-    while i < s.len() {
-        n += encoding::width(encoding::encode_byte(form, s[i]));
-        i += 1;
-    }
-    n + encoding::width(encoding::encode_end(form))
+// A slice, and how it is stored.
+#[derive(Clone, Copy)]
+pub struct Part<'a> {
+    pub mode: Mode,
+    pub bytes: &'a [u8],
 }
 
-// How many bytes are stored. Escaping at most doubles a tag and adds two; `requires` excludes overflow.
-pub fn measure(mode: Mode, s: &[u8]) -> usize
-    requires { length (bytes_of mode s.now) < 2 ^ 64 }
-    ensures { result ≡ length (bytes_of mode s.now) }
-{
-    match mode {
-        Mode::Raw => s.len(),
-        Mode::Tag => 1 + measure_encoded(encoding::form_of(s), s),
-    }
-}
-
+// Kept: a loop. With `copy_from_slice` the archive needs memmove from the program that links it. As it stands, it needs memset alone.
 fn write_raw(s: &[u8], dst: &mut [u8])
     requires { length s.now ≤ length dst.old }
     ensures { dst.new ≡ sets dst.old 0 s.now }
 {
-    let mut i = 0;
-    while i < s.len() {
-        dst[i] = s[i];
-        i += 1;
+    for (i, b) in s.iter().enumerate() {
+        dst[i] = *b;
     }
+}
+
+// What stands behind the byte in front of a tag is measured, written, hashed and compared by these four, each in one walk over the tag.
+// Kept: four walks. As one iterator over what is stored for each byte, a tag of 16 bytes took 90 instructions more to measure, and 25 more to hash.
+// Kept: the form beside the tag. Where each of the four asked for it, a comparison took 13 instructions more.
+
+fn measure_encoded(form: Form, tag: &[u8]) -> usize
+    ensures { result ≡ length (encoded form tag.now) }
+{
+    let width: usize = tag.iter().map(|b| form.encode(*b).width()).sum();
+    width + form.end().width()
 }
 
 // Writes from `start` on.
-fn write_encoded(form: Form, s: &[u8], dst: &mut [u8], start: usize)
-    requires { start + length (encoded form s.now) ≤ length dst.old }
-    ensures { dst.new ≡ sets dst.old start (encoded form s.now) }
+fn write_encoded(form: Form, tag: &[u8], dst: &mut [u8], start: usize)
+    requires { start + length (encoded form tag.now) ≤ length dst.old }
+    ensures { dst.new ≡ sets dst.old start (encoded form tag.now) }
 {
     let mut at = start;
-    let mut i = 0;
-    while i < s.len() {
-        at = encoding::put_stored(dst, at, encoding::encode_byte(form, s[i]));
-        i += 1;
+    for b in tag {
+        at = form.encode(*b).put(dst, at);
     }
-    encoding::put_stored(dst, at, encoding::encode_end(form));
+    form.end().put(dst, at);
 }
 
-// Writes the stored bytes at the front of dst. The bytes behind them stay.
-pub fn write(mode: Mode, s: &[u8], dst: &mut [u8])
-    requires { length (bytes_of mode s.now) ≤ length dst.old }
-    ensures { dst.new ≡ bytes_of mode s.now ++ drop (length (bytes_of mode s.now)) dst.old }
+fn hash_encoded(start: u32, form: Form, tag: &[u8]) -> u32
+    ensures { result ≡ fnv_from start (encoded form tag.now) }
 {
-    match mode {
-        Mode::Raw => write_raw(s, dst),
-        Mode::Tag => {
-            dst[0] = encoding::first_byte(s);
-            write_encoded(encoding::form_of(s), s, dst, 1);
-        }
-    }
+    let h = tag.iter().fold(start, |h, b| form.encode(*b).hash_on(h));
+    form.end().hash_on(h)
 }
 
-fn hash_encoded(start: u32, form: Form, s: &[u8]) -> u32
-    ensures { result ≡ fnv_from start (encoded form s.now) }
-{
-    let mut h = start;
-    let mut i = 0;
-    while i < s.len() {
-        h = encoding::hash_stored(h, encoding::encode_byte(form, s[i]));
-        i += 1;
-    }
-    encoding::hash_stored(h, encoding::encode_end(form))
-}
-
-// Extends the hash `start` by the stored bytes.
-pub fn hash_on(start: u32, mode: Mode, s: &[u8]) -> u32
-    ensures { result ≡ fnv_from start (bytes_of mode s.now) }
-{
-    match mode {
-        Mode::Raw => fnv::fnv_from(start, s),
-        Mode::Tag => hash_encoded(
-            fnv::fnv_step(start, encoding::first_byte(s)),
-            encoding::form_of(s),
-            s,
-        ),
-    }
-}
-
+// Whether the bytes are the same.
+// Kept: a loop. `==` of two slices is a call. With it a search needs 216 bytes of stack, with the loop 64.
 fn same_raw(s: &[u8], stored: &[u8]) -> bool
     ensures { result ≡ same_bytes s.now stored.now }
 {
     if s.len() != stored.len() {
         return false;
     }
-    let mut i = 0;
-    while i < s.len() {
-        if s[i] != stored[i] {
+    for (i, b) in s.iter().enumerate() {
+        if *b != stored[i] {
             return false;
         }
-        i += 1;
     }
     true
 }
 
-// Whether s is stored from `start` to the end. The lengths are compared first, so no byte needs a test for the end.
-fn same_encoded(form: Form, s: &[u8], stored: &[u8], start: usize) -> bool
+// Whether they are stored from `start` to the end. The lengths are compared first, so no byte needs a test for the end.
+fn same_encoded(form: Form, tag: &[u8], stored: &[u8], start: usize) -> bool
     requires { start ≤ length stored.now }
-    ensures { result ≡ same_bytes (encoded form s.now) (drop start stored.now) }
+    ensures { result ≡ same_bytes (encoded form tag.now) (drop start stored.now) }
 {
-    if stored.len() - start != measure_encoded(form, s) {
+    if stored.len() - start != measure_encoded(form, tag) {
         return false;
     }
     let mut at = start;
-    let mut i = 0;
-    while i < s.len() {
-        let u = encoding::encode_byte(form, s[i]);
-        if !encoding::has_stored(stored, at, u) {
+    for b in tag {
+        let piece = form.encode(*b);
+        if !piece.stands_at(stored, at) {
             return false;
         }
-        at += encoding::width(u);
-        i += 1;
+        at += piece.width();
     }
-    encoding::has_stored(stored, at, encoding::encode_end(form))
+    form.end().stands_at(stored, at)
 }
 
-// Whether s in this mode is stored as the bytes `stored`.
-pub fn same(mode: Mode, s: &[u8], stored: &[u8]) -> bool
-    ensures { result ≡ same_bytes (bytes_of mode s.now) stored.now }
-{
-    match mode {
-        Mode::Raw => same_raw(s, stored),
-        Mode::Tag => {
-            if !encoding::has_byte(stored, 0, encoding::first_byte(s)) {
-                return false;
+impl<'a> Part<'a> {
+    // A slice that is stored as it is.
+    #[tactic(auto, unfolding(crate::specs::Parts::bytes_of))]
+    #[inline(always)]
+    pub fn raw(bytes: &'a [u8]) -> Part<'a>
+        ensures mode { result.mode ≡ Raw }
+        ensures bytes { result.bytes.now ≡ bytes.now }
+        ensures stored { part_bytes result ≡ bytes.now }
+    {
+        Part {
+            mode: Mode::Raw,
+            bytes,
+        }
+    }
+
+    // A tag.
+    #[tactic(auto, unfolding(crate::specs::Parts::bytes_of))]
+    #[inline(always)]
+    pub fn tag(tag: &'a [u8]) -> Part<'a>
+        ensures mode { result.mode ≡ Tag }
+        ensures bytes { result.bytes.now ≡ tag.now }
+        ensures stored { part_bytes result ≡ tag_bytes tag.now }
+    {
+        Part {
+            mode: Mode::Tag,
+            bytes: tag,
+        }
+    }
+
+    // How many bytes are stored. Escaping at most doubles a tag and adds two; `requires` excludes overflow.
+    #[tactic(auto, unfolding(crate::specs::Parts::bytes_of))]
+    #[inline(always)]
+    pub fn measure(self) -> usize
+        requires { length (part_bytes self) < 2 ^ 64 }
+        ensures { result ≡ length (part_bytes self.entry) }
+    {
+        let s = self.bytes;
+        match self.mode {
+            Mode::Raw => s.len(),
+            Mode::Tag => 1 + measure_encoded(Form::of(s), s),
+        }
+    }
+
+    // Writes the stored bytes at the front of dst. The bytes behind them stay.
+    #[inline(always)]
+    pub fn write(self, dst: &mut [u8])
+        requires { length (part_bytes self) ≤ length dst.old }
+        ensures { dst.new ≡ part_bytes self.entry ++ drop (length (part_bytes self.entry)) dst.old }
+    {
+        let s = self.bytes;
+        match self.mode {
+            Mode::Raw => write_raw(s, dst),
+            Mode::Tag => {
+                dst[0] = encoding::first_byte(s);
+                write_encoded(Form::of(s), s, dst, 1);
             }
-            same_encoded(encoding::form_of(s), s, stored, 1)
+        }
+    }
+
+    // Extends the hash `start` by the stored bytes.
+    #[tactic(auto, unfolding(crate::specs::Parts::bytes_of))]
+    #[inline(always)]
+    pub fn hash_on(self, start: u32) -> u32
+        ensures { result ≡ fnv_from start (part_bytes self.entry) }
+    {
+        let s = self.bytes;
+        match self.mode {
+            Mode::Raw => fnv::fnv_from(start, s),
+            Mode::Tag => {
+                let h = fnv::fnv_step(start, encoding::first_byte(s));
+                hash_encoded(h, Form::of(s), s)
+            }
+        }
+    }
+
+    // Whether the part is stored as the bytes `stored`.
+    #[inline(always)]
+    pub fn is_stored_as(self, stored: &[u8]) -> bool
+        ensures { result ≡ same_bytes (part_bytes self.entry) stored.now }
+    {
+        let s = self.bytes;
+        match self.mode {
+            Mode::Raw => same_raw(s, stored),
+            Mode::Tag => {
+                encoding::has_byte(stored, 0, encoding::first_byte(s))
+                    && same_encoded(Form::of(s), s, stored, 1)
+            }
         }
     }
 }

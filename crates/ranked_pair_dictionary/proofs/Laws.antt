@@ -14,8 +14,8 @@ use lib.Seq.{take_at, drop-append_seam}
 use Rattle.slices.specs.Bytes.{Bytes}
 use Rattle.slices.proofs.Tests.{Split, split}
 use Rattle.refusals.specs.declared.Refusal.TheVariants.{ShortBuffer, HighNumber}
-use Rattle.ranked_pair_dictionary.specs.declared.FrequentId.TheVariants.{Value}
-use Rattle.ranked_pair_dictionary.specs.FrequentId.{be, of_be, frequent_id, further_bytes, fid, write_refusal, read_further, read_fid_answer}
+use Rattle.ranked_pair_dictionary.specs.declared.FrequentId.{FrequentId}
+use Rattle.ranked_pair_dictionary.specs.FrequentId.{be, of_be, frequent_id, further_bytes, fid, write_refusal, read_as, read_further, read_fid_answer}
 
 -- ---- the form, for every number n of further bytes
 
@@ -42,7 +42,7 @@ of-be (suc n) x =
     ap (λ (v : ℕ). of_be v (be n x)) e ∙ of-be n x
 
 -- Every length is read back by value, also one that is longer than needed.
-pub read-written : (n f : ℕ) (rest : Bytes) → f < 64 * 256 ^ n → read_fid_answer (frequent_id n f ++ rest) ≡ Value f (n + 1)
+pub read-written : (n f : ℕ) (rest : Bytes) → f < 64 * 256 ^ n → read_fid_answer (frequent_id n f ++ rest) ≡ read_as f (n + 1)
 unfolding frequent_id read_fid_answer read_further
 read-written n f rest h =
     let t = top n f h in
@@ -96,15 +96,16 @@ pub length-fid : (f : ℕ) → length (fid f) ≡ further_bytes f + 1
 unfolding fid
 length-fid f = length-frequent_id (further_bytes f) f
 
-pub fid-read : (f : ℕ) (rest : Bytes) → f < 2 ^ 30 → read_fid_answer (fid f ++ rest) ≡ Value f (length (fid f))
+pub fid-read : (f : ℕ) (rest : Bytes) → f < 2 ^ 30 → read_fid_answer (fid f ++ rest) ≡ read_as f (length (fid f))
 unfolding fid
-fid-read f rest h = read-written (further_bytes f) f rest (fid-holds f h) ∙ ap (λ (n : ℕ). Value f n) (sym (length-fid f))
+fid-read f rest h = read-written (further_bytes f) f rest (fid-holds f h) ∙ ap (λ (n : ℕ). read_as f n) (sym (length-fid f))
 
 -- If two frequent ids with their rests are equal bytes, the numbers are equal, and so are the rests.
 pub fid-same : (f g : ℕ) (r s : Bytes) → f < 2 ^ 30 → g < 2 ^ 30 → fid f ++ r ≡ fid g ++ s → (f ≡ g) × (r ≡ s)
 fid-same f g r s hf hg e =
-    let v : Value f (length (fid f)) ≡ Value g (length (fid g)) = sym (fid-read f r hf) ∙ ap read_fid_answer e ∙ fid-read g s hg in
-    let p : f ≡ g = cc in
+    let v : read_as f (length (fid f)) ≡ read_as g (length (fid g)) = sym (fid-read f r hf) ∙ ap read_fid_answer e ∙ fid-read g s hg in
+    let w : ◌≡◌ {A = FrequentId} (record { value = f; length = length (fid f) }) (record { value = g; length = length (fid g) }) = cc in
+    let p : f ≡ g = ap (λ (x : FrequentId). x.value) w in
     (p, cc (drop-append_seam (fid f) r, drop-append_seam (fid g) s))
 
 -- ---- when the writing is refused

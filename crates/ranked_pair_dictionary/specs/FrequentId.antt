@@ -1,14 +1,11 @@
 -- The frequent id, which stands for the number of a head: its form, its writing and its reading. Assumes nothing.
-use Rattle.std.specs.Prelude.{ℕ, zero, suc, ◌+◌, ◌*◌, ◌/◌, ◌%◌, ◌^◌, cond, [], ◌∷◌, leb, ltb, length, take}
+use Rattle.std.specs.Prelude.{ℕ, zero, suc, ◌+◌, ◌*◌, ◌/◌, ◌%◌, ◌^◌, cond, [], ◌∷◌, leb, ltb, length, take, Result, Ok, Err}
 use Rattle.std.proofs.Math.Option.{Option, none, some}
 use Rattle.slices.specs.Bytes.{Bytes}
 use Rattle.refusals.specs.declared.Refusal.{Refusal}
 use Rattle.refusals.specs.declared.Refusal.TheVariants.{ShortBuffer, HighNumber, CutForm}
-use Rattle.refusals.specs.declared.Written.{Written}
 use Rattle.refusals.specs.Written.{written_by, placed_by}
-use Rattle.ranked_pair_dictionary.specs.declared.Lead.{Lead}
 use Rattle.ranked_pair_dictionary.specs.declared.FrequentId.{FrequentId}
-use Rattle.ranked_pair_dictionary.specs.declared.FrequentId.TheVariants.{Value, Refused}
 
 -- The low n bytes of x, big endian.
 abbrev pub be : ℕ → ℕ → Bytes
@@ -32,10 +29,6 @@ further_bytes f = cond (ltb f (2 ^ 6)) 0 (cond (ltb f (2 ^ 14)) 1 (cond (ltb f (
 unfoldable pub fid : ℕ → Bytes
 fid f = frequent_id (further_bytes f) f
 
--- The bytes of a frequent id that is held by value.
-abbrev pub lead_bytes : Lead → Bytes
-lead_bytes x = take x.len x.bytes
-
 -- ---- writing, into a buffer of `room` bytes
 
 -- A value of 2^30 or more has no form. A form must fit the buffer.
@@ -43,7 +36,7 @@ unfoldable pub write_refusal : ℕ → ℕ → Option Refusal
 write_refusal value room = cond (leb (2 ^ 30) value) (some HighNumber) (cond (ltb room (length (fid value))) (some ShortBuffer) none)
 
 -- The length written, or the refusal.
-unfoldable pub write_fid_answer : ℕ → ℕ → Written
+unfoldable pub write_fid_answer : ℕ → ℕ → Result ℕ Refusal
 write_fid_answer value room = written_by (fid value) (write_refusal value room)
 
 -- The form at the buffer's start, the rest untouched. If the writing is refused, all bytes are as found.
@@ -52,11 +45,15 @@ write_fid_buffer value buffer = placed_by (fid value) buffer (write_refusal valu
 
 -- ---- reading, from the front
 
+-- The value v, read from n bytes.
+abbrev pub read_as : ℕ → ℕ → Result FrequentId Refusal
+read_as v n = Ok (record { value = v; length = n })
+
 -- Reads n further bytes from s; v is the value in the first byte. Cut if s has fewer than n.
-unfoldable pub read_further : ℕ → ℕ → Bytes → FrequentId
-read_further n v s = cond (leb n (length s)) (Value (of_be v (take n s)) (n + 1)) (Refused CutForm)
+unfoldable pub read_further : ℕ → ℕ → Bytes → Result FrequentId Refusal
+read_further n v s = cond (leb n (length s)) (read_as (of_be v (take n s)) (n + 1)) (Err CutForm)
 
 -- The value and the length; what follows is not looked at.
-unfoldable pub read_fid_answer : Bytes → FrequentId
-read_fid_answer [] = Refused CutForm
+unfoldable pub read_fid_answer : Bytes → Result FrequentId Refusal
+read_fid_answer [] = Err CutForm
 read_fid_answer (b ∷ s) = read_further (b / 64) (b % 64) s

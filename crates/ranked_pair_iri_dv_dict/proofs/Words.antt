@@ -1,13 +1,13 @@
 -- A word without marks: what the masks say of its bytes. Passing them changes no head. Assumes nothing.
-use Prim.Native.Nat.{ℕ, zero, suc, ◌+◌, ◌*◌, ◌≤◌, ◌<◌}
+use Prim.Native.Nat.{ℕ, zero, suc, ◌+◌, ◌*◌, ◌-◌, ◌≤◌, ◌<◌}
 use mathlib.Core.Path.{◌≡◌, refl, sym, ap, ◌∙◌}
 use mathlib.Core.Logic.{inl, inr}
 use mathlib.Core.Bool.{false}
 use native.Mathlib.Omega.{arith}
 use lib.Bits.{bit_and, and_block, and_le_r}
 use lib.Dec.{eqb}
-use lib.ListN.{length, get_or, take}
-use lib.Seq.{take-length}
+use lib.ListN.{length, get_or, take, drop}
+use lib.Seq.{take-length, get_or-drop}
 use borrow.Author.Tests.{eqb-true, eqb-false}
 use Rattle.slices.specs.Bytes.{Bytes}
 use Rattle.slices.proofs.Tests.{Split, split}
@@ -74,3 +74,13 @@ unmarked-head zero r s e u = let p : r ≡ length s = omega arith in rw p (ap he
 unmarked-head (suc n) r s e u =
     let p : head_length (take (suc r) s) ≡ head_length (take r s) = head-snoc s r (omega arith) ∙ rw (u r (omega arith) (omega arith)) refl in
     sym p ∙ unmarked-head n (suc r) s (omega arith) (λ i a b. u i (omega arith) b)
+
+-- The last n bytes, as a list of their own.
+pub part-head : (n : ℕ) (s part : Bytes) → n ≤ length s → part ≡ drop (length s - n) s → Unmarked part 0 n
+    → head_length (take (length s - n) s) ≡ head_length s
+part-head n s part h e u =
+    let r : ℕ = length s - n in
+    unmarked-head n r s (omega arith) (λ i a b.
+    let j : r + (i - r) ≡ i = omega arith in
+    let q : is_mark (get_or (drop r s) (i - r) 0) ≡ false = rw (← e) (u (i - r) (omega arith) (omega arith)) in
+    rw (get_or-drop r s (i - r) 0, j) at q)

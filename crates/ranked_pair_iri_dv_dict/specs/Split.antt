@@ -1,8 +1,6 @@
 -- Where an IRI is split: after its last '/' or '#'. Assumes nothing.
-use Rattle.std.specs.Prelude.{ℕ, zero, suc, ◌≤◌, ◌<◌, ◌≡◌, Bool, true, false, ◌||◌, [], ◌∷◌, eqb, get_or}
+use Rattle.std.specs.Prelude.{ℕ, zero, suc, ◌≤◌, ◌<◌, ◌≡◌, Bool, true, false, ◌||◌, [], ◌∷◌, eqb, get_or, Option, Some, None}
 use Rattle.slices.specs.Bytes.{Bytes}
-use Rattle.ranked_pair_iri_dv_dict.specs.declared.Head.{Head}
-use Rattle.ranked_pair_iri_dv_dict.specs.declared.Head.TheVariants.{Length, Nothing}
 
 -- '/' or '#'.
 abbrev pub is_mark : ℕ → Bool
@@ -24,15 +22,15 @@ head_length [] = zero
 head_length (c ∷ cs) = after_mark (is_mark c) (head_length cs)
 
 -- The answer for a head of n bytes.
-abbrev pub head_from : ℕ → Head
-head_from zero = Nothing
-head_from (suc n) = Length (suc n)
+abbrev pub head_from : ℕ → Option ℕ
+head_from zero = None
+head_from (suc n) = Some (suc n)
 
 -- What the split answers.
-unfoldable pub head_of : Bytes → Head
+unfoldable pub head_of : Bytes → Option ℕ
 head_of s = head_from (head_length s)
 
 -- An answer as a number: the length of the head. Without a mark the head is empty.
-abbrev pub length_of : Head → ℕ
-length_of Nothing = 0
-length_of (Length n) = n
+abbrev pub length_of : Option ℕ → ℕ
+length_of None = 0
+length_of (Some n) = n

@@ -1,16 +1,10 @@
 // The split of an IRI (Nemo's ranked_pair_iri_dv_dict.rs) into a head that many IRIs share and the rest.
 #![tactic(auto)]
 
-ghost use Rattle.std.specs.Prelude.{◌≡◌, true, ◌+◌, ◌≤◌, length};
-ghost use Rattle.ranked_pair_iri_dv_dict.specs.Split.{is_mark, Unmarked, head_of};
+ghost use Rattle.std.specs.Prelude.{◌≡◌, true};
+ghost use Rattle.ranked_pair_iri_dv_dict.specs.Split.{is_mark, Unmarked, head_length, head_of};
 
-use words::TOP_BITS;
-
-#[derive(Clone, Copy)]
-pub enum Head {
-    Length(usize),
-    Nothing,
-}
+use words::{TOP_BITS, WORD};
 
 fn is_mark(byte: u8) -> bool
     ensures { result ≡ is_mark byte }
@@ -24,36 +18,37 @@ const NAME_BITS: usize = 0x5050505050505050;
 // Adding this to those two bits sets the top bit of the byte exactly if one of them is set. It never carries into the next byte.
 const TO_TOP: usize = 0x7F7F7F7F7F7F7F7F;
 
-// Whether each of the eight bytes from i on has one of those bits, so that none is a mark. Some other bytes have none either, for example '-' and '.'.
-fn has_no_mark(iri: &[u8], i: usize) -> bool
-    requires { i + 8 ≤ length iri.now }
-    ensures { result ≡ true → Unmarked iri.now i (i + 8) }
+// Whether each of the eight bytes has one of those bits, so that none is a mark. Some other bytes have none either, for example '-' and '.'.
+fn has_no_mark(word: &[u8; 8]) -> bool
+    ensures { result ≡ true → Unmarked word.now 0 8 }
 {
-    ((words::word_from(iri, i) & NAME_BITS) + TO_TOP) & TOP_BITS == TOP_BITS
+    ((words::number_from::<WORD>(word, 0) & NAME_BITS) + TO_TOP) & TOP_BITS == TOP_BITS
 }
 
-// Passes bytes that are no marks, from the end, eight at a time. Answers where the bytes left end.
-fn pass_words(iri: &[u8]) -> usize
-    ensures { (result ≤ length iri.now) × Unmarked iri.now result (length iri.now) }
+// Passes bytes that are no marks, from the end, eight at a time. Answers the bytes left, which have the same head.
+fn pass_words(iri: &[u8]) -> &[u8]
+    ensures { head_length result.now ≡ head_length iri.now }
 {
-    let mut pos = iri.len();
-    while 8 <= pos && has_no_mark(iri, pos - 8) {
-        pos -= 8;
+    let mut rest = iri;
+    while let Some((before, word)) = rest.split_last_chunk::<8>() {
+        if !has_no_mark(word) {
+            break;
+        }
+        rest = before;
     }
-    pos
+    rest
 }
 
 // Searches from the end: the first mark that it meets is the last one of the IRI.
-pub fn rfind_hashslash_plus(iri: &[u8]) -> Head
+pub fn rfind_hashslash_plus(iri: &[u8]) -> Option<usize>
     ensures { result ≡ head_of iri.now }
 {
-    let mut pos = pass_words(iri);
-    while 0 < pos {
-        let last = pos - 1;
-        if is_mark(iri[last]) {
-            return Head::Length(pos);
+    let mut rest = pass_words(iri);
+    while let [before @ .., last] = rest {
+        if is_mark(*last) {
+            return Some(rest.len());
         }
-        pos = last;
+        rest = before;
     }
-    Head::Nothing
+    None
 }

@@ -1,9 +1,8 @@
 -- What a check answers. Assumes nothing.
+use Rattle.std.specs.Prelude.{Result, Ok, Err}
 use Rattle.std.proofs.Math.Option.{Option, none, some}
 use Rattle.refusals.specs.declared.Refusal.{Refusal}
-use Rattle.refusals.specs.declared.Checked.{Checked}
-use Rattle.refusals.specs.declared.Checked.TheVariants.{Legal, Illegal}
 
-abbrev pub checked_by : Option Refusal → Checked
-checked_by none = Legal
-checked_by (some why) = Illegal why
+abbrev pub checked_by : Option Refusal → Result Unit Refusal
+checked_by none = Ok tt
+checked_by (some why) = Err why

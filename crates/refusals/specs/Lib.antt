@@ -2,3 +2,4 @@
 pub mod Numbers
 pub mod Checked
 pub mod Written
+pub mod Words

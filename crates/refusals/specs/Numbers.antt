@@ -1,6 +1,7 @@
 -- The number of each refusal in document 01's table, and the refusal of a number. Assumes nothing.
-use Rattle.std.specs.Prelude.{ℕ, cond, eqb}
+use Rattle.std.specs.Prelude.{ℕ, ◌&&◌, cond, eqb, leb, Result, Ok, Err}
 use Rattle.refusals.specs.declared.Refusal.{Refusal}
+use Rattle.refusals.specs.declared.UnknownRefusal.{UnknownRefusal}
 use Rattle.refusals.specs.declared.Refusal.TheVariants.{BadSize, ShortMemory, Unopened, BadKind, TooLong, NotText, NoTag, ListFull, NoPage, NoBlock, ShortBuffer, HighNumber, CutForm}
 
 abbrev pub refusal_number : Refusal → ℕ
@@ -32,3 +33,7 @@ refusal_of n =
     (cond (eqb n 10) NoBlock
     (cond (eqb n 11) ShortBuffer
     (cond (eqb n 12) HighNumber CutForm)))))))))))
+
+-- The refusal of a number, if it is one's.
+abbrev pub refusal_by : ℕ → Result Refusal UnknownRefusal
+refusal_by n = cond (leb 1 n && leb n 13) (Ok (refusal_of n)) (Err (record { 0 = n }))

@@ -1,15 +1,13 @@
 -- What an entry that writes a form answers, and the buffer after it. Assumes nothing.
-use Rattle.std.specs.Prelude.{◌++◌, length, drop}
+use Rattle.std.specs.Prelude.{ℕ, ◌++◌, length, drop, Result, Ok, Err}
 use Rattle.std.proofs.Math.Option.{Option, none, some}
 use Rattle.slices.specs.Bytes.{Bytes}
 use Rattle.refusals.specs.declared.Refusal.{Refusal}
-use Rattle.refusals.specs.declared.Written.{Written}
-use Rattle.refusals.specs.declared.Written.TheVariants.{Length, Refused}
 
 -- The length of the form, unless there is a refusal.
-abbrev pub written_by : Bytes → Option Refusal → Written
-written_by form none = Length (length form)
-written_by form (some why) = Refused why
+abbrev pub written_by : Bytes → Option Refusal → Result ℕ Refusal
+written_by form none = Ok (length form)
+written_by form (some why) = Err why
 
 -- The buffer afterwards: the form at its start and the rest as found. With a refusal all bytes are as found.
 abbrev pub placed_by : Bytes → Bytes → Option Refusal → Bytes

@@ -3,6 +3,8 @@
 // blocks of 16. No answer comes from this library.
 #![tactic(auto)]
 
+mod call;
+mod dictionary_memory;
 mod replay;
 
 use std::io;
@@ -12,14 +14,7 @@ fn main(rt: HostRuntime) -> io::Result<()> {
     let alloc = rt.alloc();
     let mut input = Vec::new(alloc);
     rt.stdin().read_to_end(&mut input)?;
-    let mut pages = vec![in alloc; 0xAAu8; 65536]?;
-    let mut lists = vec![in alloc; 0xAAu8; 20416]?;
     let mut out = BufWriter::new(alloc, io::writer(&rt))?;
-    replay::run(
-        &mut out,
-        input.as_slice(),
-        pages.as_mut_slice(),
-        lists.as_mut_slice(),
-    )?;
+    replay::run(&mut out, alloc, input.as_slice())?;
     out.flush()
 }

@@ -4,8 +4,11 @@ use mathlib.Core.Path.{◌≡◌, refl, ◌∙◌}
 use mathlib.Core.Logic.{inl, inr}
 use mathlib.Core.Bool.{true, false}
 use mathlib.Core.Option.{none, some}
+use Rattle.std.specs.Prelude.{Result, Ok, Err}
 use Rattle.slices.specs.Bytes.{Bytes}
 use Rattle.slices.proofs.Tests.{Split, split}
+use Rattle.refusals.specs.declared.Refusal.{Refusal}
+use Rattle.refusals.specs.declared.Refusal.TheVariants.{Unopened}
 use Rattle.layout.specs.declared.Sizes.{Sizes}
 use Rattle.layout.specs.Sizes.{kinds}
 use Rattle.bytes_index.specs.declared.Probe.{Probe}
@@ -22,18 +25,24 @@ use Rattle.memory.specs.Stands.{Stands}
 use Rattle.memory.proofs.Probes.{main-at, main-free, main-bad, head_at, head-free, head-bad}
 use Rattle.search.specs.declared.Place.TheVariants.{Key, Head}
 use Rattle.search.specs.declared.Search.{Search}
-use Rattle.search.specs.declared.Search.TheVariants.{Found, Missing, Bad}
+use Rattle.search.specs.declared.Search.TheVariants.{Found, Missing}
 use Rattle.search.specs.declared.Sought.{Sought}
 use Rattle.search.specs.Found.{Tells, EndsKey, key_behind, KeyEnded, HeadEnded, EndedBy}
 
 -- The search for a key, as a part of the search for a name.
-pub key-ends : (s : Sizes) (pages lists : Bytes) (k : ℕ) (head rest : Bytes) (x : Sought) (key : Bytes) (r : Search) → EndsKey s pages lists k key r
-    → ((p : Probe) → Searched s (row k).main_at pages lists key p → KeyEnded s pages lists k head rest x p)
+pub key-ends : (s : Sizes) (pages lists : Bytes) (k : ℕ) (head rest : Bytes) (x : Sought) (key : Bytes) (r : Result Search Refusal) → EndsKey s pages lists k key r
+    → ((p : Result Probe Refusal) → Searched s (row k).main_at pages lists key p → KeyEnded s pages lists k head rest x p)
     → EndedBy s pages lists k head rest x r
-key-ends s pages lists k head rest x key (Found i) e f = f (P.At i.0) e
-key-ends s pages lists k head rest x key (Missing (Key j)) e f = f (P.Free j) e
-key-ends s pages lists k head rest x key (Missing (Head j)) e f = absurd e
-key-ends s pages lists k head rest x key Bad e f = inr (f P.Bad e)
+key-ends s pages lists k head rest x key (Ok (Found i)) e f = f (Ok (P.At i.0)) e
+key-ends s pages lists k head rest x key (Ok (Missing (Key j))) e f = f (Ok (P.Free j)) e
+key-ends s pages lists k head rest x key (Ok (Missing (Head j))) e f = absurd e
+key-ends s pages lists k head rest x key (Err why) e f = inr (f (Err why) e)
+
+-- A refusal of the search is number 3.
+pub search-refused : (s : Sizes) (pages lists : Bytes) (k : ℕ) (head rest : Bytes) (x : Sought) {why : Refusal} → EndedBy s pages lists k head rest x (Err why)
+    → why ≡ Unopened
+search-refused s pages lists k head rest x (inl H) = H.searched.range
+search-refused s pages lists k head rest x (inr K) = K.searched.range
 
 -- ---- at a state, of a legal name
 
@@ -42,7 +51,7 @@ module _ {s : Sizes} {st : State} {pages lists : Bytes} (S : Stands s st pages l
   known = legal-kind s a legal
 
   -- The key that was searched is the name's own.
-  pub own_key : (r : Probe) (K : KeyEnded s pages lists a.kind ((row a.kind).head a) ((row a.kind).rest a) x r)
+  pub own_key : (r : Result Probe Refusal) (K : KeyEnded s pages lists a.kind ((row a.kind).head a) ((row a.kind).rest a) x r)
       → (new_head a (st.part a.kind) ≡ false) × (key_of (st.part a.kind).heads a ≡ key_behind a.kind K.f ((row a.kind).rest a))
   own_key r K = go (split (row a.kind).paired)
     where
@@ -53,21 +62,21 @@ module _ {s : Sizes} {st : State} {pages lists : Bytes} (S : Stands s st pages l
       go (inr p) = rw p (refl, refl)
 
   -- A head that was not found is a new one.
-  pub own_new : (j : ℕ) → HeadEnded s pages lists a.kind ((row a.kind).head a) x (P.Free j) → new_head a (st.part a.kind) ≡ true
+  pub own_new : (j : ℕ) → HeadEnded s pages lists a.kind ((row a.kind).head a) x (Ok (P.Free j)) → new_head a (st.part a.kind) ≡ true
   own_new j H = rw (H.paired, head-free s st pages lists S a.kind known (name_head a) H.paired j H.searched)
 
   by-dictionaries : local_of a (st.part a.kind).names ≡ looked_up a (st.part a.kind)
   by-dictionaries = looked-up s S.good.sizes a _ _ (st.part a.kind) (S.good.part a.kind) legal
 
   -- So its local number is that of the key.
-  by_key : (r : Probe) (K : KeyEnded s pages lists a.kind ((row a.kind).head a) ((row a.kind).rest a) x r)
+  by_key : (r : Result Probe Refusal) (K : KeyEnded s pages lists a.kind ((row a.kind).head a) ((row a.kind).rest a) x r)
       → local_of a (st.part a.kind).names
       ≡ entry_number (key_behind a.kind K.f ((row a.kind).rest a)) (keys_of (st.part a.kind).heads (st.part a.kind).names)
   by_key r K = let o = own_key r K in by-dictionaries ∙ rw (o.0, o.1)
 
-  pub tells : (r : Search) → EndedBy s pages lists a.kind ((row a.kind).head a) ((row a.kind).rest a) x r → Tells r (local_of a (st.part a.kind).names)
-  tells (Found i) K = by_key _ K ∙ main-at s st pages lists S a.kind known _ i.0 K.searched
-  tells (Missing (Key j)) K = by_key _ K ∙ main-free s st pages lists S a.kind known _ j K.searched
-  tells (Missing (Head j)) H = by-dictionaries ∙ rw (own_new j H)
-  tells Bad (inl H) = head-bad s st pages lists S a.kind known (name_head a) H.paired H.searched
-  tells Bad (inr K) = main-bad s st pages lists S a.kind known _ K.searched
+  pub tells : (r : Result Search Refusal) → EndedBy s pages lists a.kind ((row a.kind).head a) ((row a.kind).rest a) x r → Tells r (local_of a (st.part a.kind).names)
+  tells (Ok (Found i)) K = by_key _ K ∙ main-at s st pages lists S a.kind known _ i.0 K.searched
+  tells (Ok (Missing (Key j))) K = by_key _ K ∙ main-free s st pages lists S a.kind known _ j K.searched
+  tells (Ok (Missing (Head j))) H = by-dictionaries ∙ rw (own_new j H)
+  tells (Err why) (inl H) = head-bad s st pages lists S a.kind known (name_head a) H.paired H.searched
+  tells (Err why) (inr K) = main-bad s st pages lists S a.kind known _ K.searched

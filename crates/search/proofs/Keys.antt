@@ -36,10 +36,14 @@ pub scanned-hash : (key : Bytes) (h : ℕ) → h ≡ fnv_from 2166136261 key →
 unfolding fnv_of
 scanned-hash key h p = p
 
--- The hash of the front is taken on over a raw rest.
+-- The hash of the front is taken on over the rest.
+pub hash-on : (front rest : Bytes) (g h : ℕ) → g ≡ fnv_of front → h ≡ fnv_from g rest → h ≡ fnv_of (front ++ rest)
+hash-on front rest g h p q = q ∙ ap (λ (x : ℕ). fnv_from x rest) p ∙ sym (fnv-of-append front rest)
+
+-- It may be stored in another form, before a raw rest.
 pub on-hash : (mode : Mode) (front rest : Bytes) (g h : ℕ) → g ≡ fnv_of (bytes_of mode front) → h ≡ fnv_from g rest → h ≡ fnv_of (key_bytes mode front Raw rest)
 unfolding bytes_of
-on-hash mode front rest g h p q = q ∙ ap (λ (x : ℕ). fnv_from x rest) p ∙ sym (fnv-of-append (bytes_of mode front) rest)
+on-hash mode front rest = hash-on (bytes_of mode front) rest
 
 -- A name's key fits a page: a string behind its tag, or a rest behind a lead.
 pub string-paged : (s : Sizes) (mode : Mode) (front rest : Bytes) → InRange s → length front + length rest ≤ limit s → length (key_bytes mode front Raw rest) ≤ page_size s

@@ -7,7 +7,7 @@ ghost use Rattle.fnv.specs.Fnv.{fnv_of, bits_from};
 ghost use Rattle.utf8.specs.Text.{is_text};
 ghost use Rattle.layout.specs.Sizes.{limit, kinds};
 ghost use Rattle.layout.specs.Lent.{Lent};
-ghost use Rattle.ranked_pair_dictionary.specs.FrequentId.{fid, lead_bytes};
+ghost use Rattle.ranked_pair_dictionary.specs.FrequentId.{fid};
 ghost use Rattle.bytes_key.specs.Keys.{bytes_in, IsKey};
 ghost use Rattle.bytes_index.specs.Search.{Searched};
 ghost use Rattle.model.specs.Names.{entered};
@@ -21,8 +21,9 @@ use bytes_index::Probe;
 use bytes_key::Key;
 use fnv::Scanned;
 use layout::Sizes;
-use parts::Mode;
+use parts::{Mode, Part};
 use ranked_pair_dictionary::Lead;
+use refusals::Refusal;
 
 // The empty place at which a search ended: that of the name's key, or that of its head, which is not stored.
 #[derive(Clone, Copy)]
@@ -31,19 +32,20 @@ pub enum Place {
     Head(usize),
 }
 
-// A name's local number, or the place of a name that is not stored. Bad: the memory is no dictionary's.
+// A name's local number, or the place of a name that is not stored.
+// Kept: an enum of its own. A name that is missing is no error, so a Result inside the search's Result is no plainer.
 #[derive(Clone, Copy)]
 pub enum Search {
     Found(LocalId),
     Missing(Place),
-    Bad,
 }
 
 // What the search says of a name, and all that an add of it needs: the lead in front of its rest, if its head is stored; the hashes of its key and of its head.
-// `ascii`: the search has seen every byte of the name, and all are ASCII.
+// `found` is Unopened if the memory is no dictionary's. `ascii`: the search has seen every byte of the name, and all are ASCII.
+// Kept: `ascii` is a flag. It stands beside any answer and belongs to no other field, so an Option of a field is no plainer.
 #[derive(Clone, Copy)]
 pub struct Sought {
-    pub found: Search,
+    pub found: Result<Search, Refusal>,
     pub ascii: bool,
     pub lead: Lead,
     pub h: u32,
@@ -51,7 +53,14 @@ pub struct Sought {
 }
 
 // The search for a head of the kind k, whose hash is h.
-fn find_head(pages: &[u8], lists: &[u8], s: Sizes, k: usize, h: u32, head: &[u8]) -> Probe
+fn find_head(
+    pages: &[u8],
+    lists: &[u8],
+    s: Sizes,
+    k: usize,
+    h: u32,
+    head: &[u8],
+) -> Result<Probe, Refusal>
     requires { Lent s pages.now lists.now kinds k × ((row k).paired ≡ true) × (h ≡ fnv_of head.now) }
     ensures { Searched s (row k).heads_at pages.now lists.now head.now result }
 {
@@ -74,29 +83,26 @@ fn find_key(
     key: Key,
     front: &[u8],
     rest: &[u8],
-) -> Search
+) -> Result<Search, Refusal>
     requires { Lent s pages.now lists.now kinds k × (key.d ≡ (row k).main_at) × IsKey key front.now rest.now }
     ensures { EndsKey s pages.now lists.now k (bytes_in key front.now rest.now) result }
 {
-    match bytes_index::bytes_to_id(pages, lists, s, key, front, rest) {
-        Probe::At(i) => Search::Found(names::entry_to_local(EntryId(i))),
-        Probe::Free(place) => Search::Missing(Place::Key(place)),
-        Probe::Bad => Search::Bad,
-    }
+    Ok(
+        match bytes_index::bytes_to_id(pages, lists, s, key, front, rest)? {
+            Probe::At(i) => Search::Found(names::entry_to_local(EntryId(i))),
+            Probe::Free(place) => Search::Missing(Place::Key(place)),
+        },
+    )
 }
 
 // The answer of a search that has found no head.
-fn headless(found: Search, headhash: u32) -> Sought
+fn headless(found: Result<Search, Refusal>, headhash: u32) -> Sought
     ensures { (result.found ≡ found) × (result.headhash ≡ headhash) × (result.ascii ≡ false) }
 {
-    let lead = Lead {
-        bytes: [0u8; 4],
-        len: 0,
-    };
     Sought {
         found,
         ascii: false,
-        lead,
+        lead: Lead::empty(),
         h: 0,
         headhash,
     }
@@ -114,20 +120,18 @@ fn find_behind(
 ) -> Sought
     requires { Lent s pages.now lists.now kinds k × (f < s.e) × (length rest.now ≤ limit s) }
     ensures found { EndsKey s pages.now lists.now k (fid f ++ rest.now) result.found }
-    ensures placed { (lead_bytes result.lead ≡ fid f) × (result.lead.len ≤ length result.lead.bytes) × (result.h ≡ fnv_of (fid f ++ rest.now)) }
+    ensures placed { (result.lead ≡ fid f) × (result.h ≡ fnv_of (fid f ++ rest.now)) }
     ensures ascii { result.ascii ≡ true → bits_from x.bits rest.now < 128 }
 {
     let lead = ranked_pair_dictionary::lead_of(f);
-    let m = lead.len;
-    let bytes = lead.bytes;
-    let y = fnv::scan(fnv::fnv(&bytes[..m]), x.bits, rest);
+    let y = fnv::scan(fnv::fnv(lead.as_slice()), x.bits, rest);
     let key = Key {
         d: kind_table::main_dictionary(k),
         h: y.h,
         front: Mode::Raw,
         rest: Mode::Raw,
     };
-    let found = find_key(pages, lists, s, k, key, &bytes[..m], rest);
+    let found = find_key(pages, lists, s, k, key, lead.as_slice(), rest);
     Sought {
         found,
         ascii: y.bits < 0x80,
@@ -145,9 +149,9 @@ fn find_pair(pages: &[u8], lists: &[u8], s: Sizes, k: usize, head: &[u8], rest: 
 {
     let x = fnv::scan(fnv::START, 0, head);
     match find_head(pages, lists, s, k, x.h, head) {
-        Probe::At(f) => find_behind(pages, lists, s, k, f, x, rest),
-        Probe::Free(place) => headless(Search::Missing(Place::Head(place)), x.h),
-        Probe::Bad => headless(Search::Bad, x.h),
+        Ok(Probe::At(f)) => find_behind(pages, lists, s, k, f, x, rest),
+        Ok(Probe::Free(place)) => headless(Ok(Search::Missing(Place::Head(place))), x.h),
+        Err(why) => headless(Err(why), x.h),
     }
 }
 
@@ -158,22 +162,19 @@ fn find_str(pages: &[u8], lists: &[u8], s: Sizes, k: usize, text: &[u8], tag: &[
     ensures ascii { result.ascii ≡ true → (is_text text.now ≡ true) × (is_text tag.now ≡ true) }
 {
     let mode = kind_table::front_mode(k);
-    let x = fnv::scan(parts::hash_on(fnv::START, mode, tag), 0, text);
+    let front = Part { mode, bytes: tag };
+    let x = fnv::scan(front.hash_on(fnv::START), 0, text);
     let key = Key {
         d: kind_table::main_dictionary(k),
         h: x.h,
         front: mode,
         rest: Mode::Raw,
     };
-    let lead = Lead {
-        bytes: [0u8; 4],
-        len: 0,
-    };
     Sought {
         found: find_key(pages, lists, s, k, key, tag, text),
         // Most labels have a letter that is not ASCII, so a test of the tag would not pay.
         ascii: tag.len() == 0 && x.bits < 0x80,
-        lead,
+        lead: Lead::empty(),
         h: x.h,
         headhash: fnv::START,
     }

@@ -22,10 +22,12 @@ packed-key text tag = go (split (leb (length tag) 127))
     go (inl p) = rw p
     go (inr p) = rw p (ap (λ (s : Bytes). 0 ∷ s) (sym (append_assoc (escaped tag) (62 ∷ []) text)))
 
-pub length-tagged-key : (text tag : Bytes) → length (bytes_of Tag tag) + length text ≡ length (packed text tag)
-length-tagged-key text tag = rw (packed-key text tag) (sym (length-append (bytes_of Tag tag) text))
+pub length-tagged-key : (text tag : Bytes) → length (tag_bytes tag) + length text ≡ length (packed text tag)
+unfolding bytes_of
+length-tagged-key text tag = rw (packed-key text tag) (sym (length-append (tag_bytes tag) text))
 
 -- Both stored from a buffer's start, one behind the other.
-pub placed-key : (text tag b : Bytes) → length (bytes_of Tag tag) + length text ≤ length b
-    → sets (sets b 0 (bytes_of Tag tag)) (length (bytes_of Tag tag)) text ≡ packed text tag ++ drop (length (packed text tag)) b
-placed-key text tag b h = rw (packed-key text tag) (two-parts (bytes_of Tag tag) text b h)
+pub placed-key : (text tag b : Bytes) → length (tag_bytes tag) + length text ≤ length b
+    → sets (sets b 0 (tag_bytes tag)) (length (tag_bytes tag)) text ≡ packed text tag ++ drop (length (packed text tag)) b
+unfolding bytes_of
+placed-key text tag b h = rw (packed-key text tag) (two-parts (tag_bytes tag) text b h)

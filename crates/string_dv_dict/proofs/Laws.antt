@@ -16,7 +16,7 @@ use Rattle.utf8.specs.Text.{is_text}
 use Rattle.encoding.proofs.Laws.{length-escaped}
 use Rattle.refusals.specs.declared.Refusal.{Refusal}
 use Rattle.refusals.specs.declared.Refusal.TheVariants.{TooLong, NotText, NoTag, ShortBuffer}
-use Rattle.refusals.specs.declared.Written.TheVariants as W
+use Rattle.std.specs.Prelude.{Ok}
 use Rattle.refusals.specs.Written.{written_by}
 use Rattle.string_dv_dict.specs.Packed.{packed, pair_refusal, LegalTagged}
 use Rattle.string_dv_dict.specs.Answers.{with_room, pack_answer}
@@ -62,15 +62,15 @@ length-packed text tag h = rw packed-from-name (omega (arith, h.size, packed-at-
 
 -- ---- what a length answered says
 
-length-told : (form : Bytes) (o : Option Refusal) (k : ℕ) → written_by form o ≡ W.Length k → (o ≡ none) × (length form ≡ k)
+length-told : (form : Bytes) (o : Option Refusal) (k : ℕ) → written_by form o ≡ Ok k → (o ≡ none) × (length form ≡ k)
 length-told form none k e = (refl, cc)
-length-told form (some why) k e = let z : ◌≡◌ {A = ℕ} 0 1 = cc in absurd (omega arith)
+length-told form (some why) k e = cc
 
 with-room : (form : Bytes) (room : ℕ) (o : Option Refusal) → with_room form room o ≡ none → (o ≡ none) × (length form ≤ room)
 with-room form room none e = (refl, ltb-false _ _ (passed (ltb room (length form)) ShortBuffer none e).0)
-with-room form room (some why) e = let z : ◌≡◌ {A = ℕ} 0 1 = cc in absurd (omega arith)
+with-room form room (some why) e = cc
 
-pub wrote : (text tag : Bytes) (room k : ℕ) → pack_answer text tag room ≡ W.Length k
+pub wrote : (text tag : Bytes) (room k : ℕ) → pack_answer text tag room ≡ Ok k
     → (pair_refusal text tag ≡ none) × (length (packed text tag) ≤ room) × (length (packed text tag) ≡ k)
 unfolding pack_answer
 wrote text tag room k e =

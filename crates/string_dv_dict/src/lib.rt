@@ -6,53 +6,52 @@ ghost use Rattle.std.proofs.lemmas.List.Edits.{sets};
 ghost use Rattle.string_dv_dict.specs.Packed.{pair_refusal};
 ghost use Rattle.string_dv_dict.specs.Answers.{pack_answer, pack_buffer};
 ghost use Rattle.refusals.specs.Checked.{checked_by};
-ghost use Rattle.parts.specs.Parts.{bytes_of};
+ghost use Rattle.parts.specs.Parts.{part_bytes};
 
 use layout::Sizes;
-use parts::Mode;
-use refusals::{Checked, Refusal, Written};
+use parts::Part;
+use refusals::Refusal;
 
 // Checks a text and a tag for refusals 5, 6 and 7, in this order.
-pub fn check_pair(text: &[u8], tag: &[u8]) -> Checked
+#[tactic(auto, unfolding(crate::specs::Packed::pair_refusal, layout::specs::Sizes::name_limit))]
+pub fn check_pair(text: &[u8], tag: &[u8]) -> Result<(), Refusal>
     ensures { result ≡ checked_by (pair_refusal text.now tag.now) }
 {
     if Sizes::NAME_LIMIT < text.len() + tag.len() {
-        return Checked::Illegal(Refusal::TooLong);
+        return Err(Refusal::TooLong);
     }
     if !utf8::is_text(text) {
-        return Checked::Illegal(Refusal::NotText);
+        return Err(Refusal::NotText);
     }
     if !utf8::is_text(tag) {
-        return Checked::Illegal(Refusal::NotText);
+        return Err(Refusal::NotText);
     }
     if tag.len() == 0 {
-        return Checked::Illegal(Refusal::NoTag);
+        return Err(Refusal::NoTag);
     }
-    Checked::Legal
+    Ok(())
 }
 
-// Writes the stored bytes at `at`.
-pub fn write_stored(mode: Mode, s: &[u8], dst: &mut [u8], at: usize)
-    requires { at + length (bytes_of mode s.now) ≤ length dst.old }
-    ensures { dst.new ≡ sets dst.old at (bytes_of mode s.now) }
+// Writes the stored bytes of a part at `at`.
+pub fn write_stored(part: Part<'_>, dst: &mut [u8], at: usize)
+    requires { at + length (part_bytes part) ≤ length dst.old }
+    ensures { dst.new ≡ sets dst.old at (part_bytes part.entry) }
 {
-    parts::write(mode, s, &mut dst[at..]);
+    part.write(&mut dst[at..]);
 }
 
 // Packs a text and its tag at the buffer's start.
-pub fn two_strings_to_one(text: &[u8], tag: &[u8], buffer: &mut [u8]) -> Written
+pub fn two_strings_to_one(text: &[u8], tag: &[u8], buffer: &mut [u8]) -> Result<usize, Refusal>
     ensures { (result ≡ pack_answer text.now tag.now (length buffer.old)) × (buffer.new ≡ pack_buffer text.now tag.now buffer.old) }
 {
-    let checked = check_pair(text, tag);
-    if let Checked::Illegal(why) = checked {
-        return Written::Refused(why);
-    }
-    let m = parts::measure(Mode::Tag, tag);
+    check_pair(text, tag)?;
+    let front = Part::tag(tag);
+    let m = front.measure();
     let n = m + text.len();
     if buffer.len() < n {
-        return Written::Refused(Refusal::ShortBuffer);
+        return Err(Refusal::ShortBuffer);
     }
-    write_stored(Mode::Tag, tag, buffer, 0);
-    write_stored(Mode::Raw, text, buffer, m);
-    Written::Length(n)
+    write_stored(front, buffer, 0);
+    write_stored(Part::raw(text), buffer, m);
+    Ok(n)
 }

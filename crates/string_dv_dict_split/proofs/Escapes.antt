@@ -1,5 +1,5 @@
 -- An escaped tag is read back, and only an escaped tag scans well. Assumes nothing.
-use Prim.Native.Nat.{ℕ, suc, ◌+◌, ◌<◌, ◌≤◌}
+use Prim.Native.Nat.{ℕ, suc, ◌+◌, ◌<◌}
 use mathlib.Core.Path.{◌≡◌, refl, ap}
 use mathlib.Core.Logic.{inl, inr}
 use mathlib.Core.Bool.{true, false}
@@ -8,10 +8,11 @@ use native.Mathlib.Omega.{arith}
 use borrow.Author.Tests.{eqb-true}
 use lib.Dec.{eqb}
 use lib.ListN.{length, take, drop}
+use Rattle.std.specs.Prelude.{Some, None}
 use Rattle.slices.specs.Bytes.{Bytes}
 use Rattle.slices.proofs.Tests.{Split, split}
 use Rattle.encoding.specs.Encoding.{escape, escaped}
-use Rattle.string_dv_dict_split.specs.declared.Scan.TheVariants.{Whole, Escape, Bad}
+use Rattle.string_dv_dict_split.specs.declared.Scan.TheVariants.{Whole, Escape}
 use Rattle.string_dv_dict_split.specs.Forms.{before, behind, unescaped}
 use Rattle.string_dv_dict_split.specs.Scans.{scan_from}
 
@@ -39,36 +40,36 @@ read-escaped (c ∷ t) = go (split (eqb c 92)) (split (eqb c 62)) (read-escaped 
 
 -- ---- the scan
 
-scan-bad : (s : Bytes) → scan_from Bad s ≡ Bad
+pub scan-bad : (s : Bytes) → scan_from None s ≡ None
 unfolding scan_from
 scan-bad [] = refl
 scan-bad (c ∷ s) = scan-bad s
 
 -- An escaped tag scans to its length.
-pub scan-escaped : (t : Bytes) (n : ℕ) → scan_from (Whole n) (escaped t) ≡ Whole (n + length t)
+pub scan-escaped : (t : Bytes) (n : ℕ) → scan_from (Some (Whole n)) (escaped t) ≡ Some (Whole (n + length t))
 unfolding escape escaped scan_from
 scan-escaped [] n = let e : n + 0 ≡ n = omega arith in rw e
 scan-escaped (c ∷ t) n = go (split (eqb c 92)) (split (eqb c 62)) (scan-escaped t (n + 1))
   where
-    go : Split (eqb c 92) → Split (eqb c 62) → scan_from (Whole (n + 1)) (escaped t) ≡ Whole (n + 1 + length t)
-        → scan_from (Whole n) (escaped (c ∷ t)) ≡ Whole (n + suc (length t))
+    go : Split (eqb c 92) → Split (eqb c 62) → scan_from (Some (Whole (n + 1))) (escaped t) ≡ Some (Whole (n + 1 + length t))
+        → scan_from (Some (Whole n)) (escaped (c ∷ t)) ≡ Some (Whole (n + suc (length t)))
     go p q ih = let e : n + suc (length t) ≡ n + 1 + length t = omega arith in rw e (each p q)
       where
-        each : Split (eqb c 92) → Split (eqb c 62) → scan_from (Whole n) (escaped (c ∷ t)) ≡ Whole (n + 1 + length t)
+        each : Split (eqb c 92) → Split (eqb c 62) → scan_from (Some (Whole n)) (escaped (c ∷ t)) ≡ Some (Whole (n + 1 + length t))
         each (inl p) q = rw p ih
         each (inr p) (inl q) = rw (p, q) ih
         each (inr p) (inr q) = rw (p, q, q, p) ih
 
 -- What scans to a length is the escaped form of what it unescapes to, which has that length: outside an escape, and behind a '\'.
 abbrev Outside : Bytes → Type 0
-Outside s = (n m : ℕ) → scan_from (Whole n) s ≡ Whole m → (escaped (unescaped false s) ≡ s) × (m ≡ n + length (unescaped false s))
+Outside s = (n m : ℕ) → scan_from (Some (Whole n)) s ≡ Some (Whole m) → (escaped (unescaped false s) ≡ s) × (m ≡ n + length (unescaped false s))
 
 abbrev Behind : Bytes → Type 0
-Behind s = (n m : ℕ) → scan_from (Escape n) s ≡ Whole m → (escaped (unescaped true s) ≡ 92 ∷ s) × (m ≡ n + length (unescaped true s))
+Behind s = (n m : ℕ) → scan_from (Some (Escape n)) s ≡ Some (Whole m) → (escaped (unescaped true s) ≡ 92 ∷ s) × (m ≡ n + length (unescaped true s))
 
 both : (s : Bytes) → Outside s × Behind s
 unfolding escape escaped unescaped scan_from
-both [] = (λ n m e. let u : n ≡ m = cc in (refl, omega arith), λ n m e. let z : ◌≡◌ {A = ℕ} 0 1 = cc in absurd (omega arith))
+both [] = (λ n m e. let u : n ≡ m = cc in (refl, omega arith), λ n m e. cc)
 both (c ∷ s) = (outside (both s), after (both s))
   where
     outside : Outside s × Behind s → Outside (c ∷ s)
@@ -76,15 +77,15 @@ both (c ∷ s) = (outside (both s), after (both s))
       where
         go : Split (eqb c 62) → Split (eqb c 92) → (escaped (unescaped false (c ∷ s)) ≡ c ∷ s) × (m ≡ n + length (unescaped false (c ∷ s)))
         go (inl p) q =
-            let x : scan_from Bad s ≡ Whole m = rw p at e in
-            let z : ◌≡◌ {A = ℕ} 0 1 = cc (scan-bad s) in absurd (omega arith)
+            let x : scan_from None s ≡ Some (Whole m) = rw p at e in
+            cc (scan-bad s)
         go (inr p) (inl q) =
-            let x : scan_from (Escape n) s ≡ Whole m = rw (p, q) at e in
+            let x : scan_from (Some (Escape n)) s ≡ Some (Whole m) = rw (p, q) at e in
             let h = ih.1 n m x in
             let k : c ≡ 92 = eqb-true c 92 q in
             rw q (rw k h.0, h.1)
         go (inr p) (inr q) =
-            let x : scan_from (Whole (n + 1)) s ≡ Whole m = rw (p, q) at e in
+            let x : scan_from (Some (Whole (n + 1))) s ≡ Some (Whole m) = rw (p, q) at e in
             let h = ih.0 (n + 1) m x in
             rw (q, q, p) (ap (λ (l : Bytes). c ∷ l) h.0, omega (arith, h.1))
 
@@ -93,21 +94,21 @@ both (c ∷ s) = (outside (both s), after (both s))
       where
         go : Split (eqb c 92) → Split (eqb c 97) → (escaped (unescaped true (c ∷ s)) ≡ 92 ∷ c ∷ s) × (m ≡ n + length (unescaped true (c ∷ s)))
         go (inl p) q =
-            let x : scan_from (Whole (n + 1)) s ≡ Whole m = rw p at e in
+            let x : scan_from (Some (Whole (n + 1))) s ≡ Some (Whole m) = rw p at e in
             let h = ih.0 (n + 1) m x in
             let k : c ≡ 92 = eqb-true c 92 p in
             rw k (ap (λ (l : Bytes). 92 ∷ 92 ∷ l) h.0, omega (arith, h.1))
         go (inr p) (inl q) =
-            let x : scan_from (Whole (n + 1)) s ≡ Whole m = rw (p, q) at e in
+            let x : scan_from (Some (Whole (n + 1))) s ≡ Some (Whole m) = rw (p, q) at e in
             let h = ih.0 (n + 1) m x in
             let k : c ≡ 97 = eqb-true c 97 q in
             rw k (ap (λ (l : Bytes). 92 ∷ 97 ∷ l) h.0, omega (arith, h.1))
         go (inr p) (inr q) =
-            let x : scan_from Bad s ≡ Whole m = rw (p, q) at e in
-            let z : ◌≡◌ {A = ℕ} 0 1 = cc (scan-bad s) in absurd (omega arith)
+            let x : scan_from None s ≡ Some (Whole m) = rw (p, q) at e in
+            cc (scan-bad s)
 
 -- A run of bytes scans to m exactly if it is the escaped form of m bytes, which are what it unescapes to.
-pub scan_good : (s : Bytes) (m : ℕ) → scan_from (Whole 0) s ≡ Whole m → (escaped (unescaped false s) ≡ s) × (m ≡ length (unescaped false s))
+pub scan_good : (s : Bytes) (m : ℕ) → scan_from (Some (Whole 0)) s ≡ Some (Whole m) → (escaped (unescaped false s) ≡ s) × (m ≡ length (unescaped false s))
 scan_good s m e = let h = (both s).0 0 m e in (h.0, omega (arith, h.1))
 
 -- ---- the first '>'
@@ -134,12 +135,3 @@ before_split (c ∷ s) h = go (split (eqb c 62)) (before_split s)
         let k : suc (length (before s)) < suc (length s) = rw p at h in
         let g = ih (omega arith) in
         rw p (ap (λ (l : Bytes). c ∷ l) g.0, g.1)
-
-pub length_before : (s : Bytes) → length (before s) ≤ length s
-unfolding before
-length_before [] = omega arith
-length_before (c ∷ s) = go (split (eqb c 62)) (length_before s)
-  where
-    go : Split (eqb c 62) → length (before s) ≤ length s → length (before (c ∷ s)) ≤ suc (length s)
-    go (inl p) ih = rw p (omega arith)
-    go (inr p) ih = rw p (omega arith)

@@ -11,13 +11,14 @@ use lib.Dec.{eqb, leb, ltb}
 use lib.ListN.{length, take, drop, length-drop}
 use lib.Seq.{take_all, drop-drop, length-take-le}
 use borrow.Author.Tests.{eqb-true, eqb-false, leb-true, leb-false, ltb-true, ltb-false}
+use Rattle.std.specs.Prelude.{Option, Some, None}
 use Rattle.slices.specs.Bytes.{Bytes}
 use Rattle.slices.proofs.Tests.{Split, split, clash}
 use Rattle.utf8.specs.Text.{is_text}
 use Rattle.encoding.specs.Encoding.{escaped}
 use Rattle.encoding.proofs.Laws.{length-escaped}
 use Rattle.string_dv_dict_split.specs.declared.Scan.{Scan}
-use Rattle.string_dv_dict_split.specs.declared.Scan.TheVariants.{Whole, Escape, Bad}
+use Rattle.string_dv_dict_split.specs.declared.Scan.TheVariants.{Whole, Escape}
 use Rattle.string_dv_dict_split.specs.declared.Form.{Form}
 use Rattle.string_dv_dict_split.specs.declared.Form.TheVariants as F
 use Rattle.string_dv_dict.specs.Packed.{pair_refusal}
@@ -56,32 +57,32 @@ record IsLong (form : Bytes) (end n : ℕ) : Type 0 where
   tag : escaped (unescaped false (before (drop 1 form))) ≡ before (drop 1 form)
   size : n ≡ length (unescaped false (before (drop 1 form)))
 
-abbrev Is : Bytes → Form → Type 0
-Is form (F.Short n) = IsShort form n
-Is form (F.Long end n) = IsLong form end n
-Is form F.Cut = accepted form ≡ false
+abbrev Is : Bytes → Option Form → Type 0
+Is form (Some (F.Short n)) = IsShort form n
+Is form (Some (F.Long end n)) = IsLong form end n
+Is form None = accepted form ≡ false
 
 empty-cut : accepted [] ≡ false
 unfolding tag_in
 empty-cut = not-accepted [] (λ p. clash refl (legal-tagged (text_in []) (tag_in []) (unpack-pack [] p).0).tagged)
 
 -- What stands before the first '>' of an accepted form scans well.
-scans : (s : Bytes) → Long s → scan_from (Whole 0) (before s) ≡ Whole (length (unescaped false (before s)))
+scans : (s : Bytes) → Long s → scan_from (Some (Whole 0)) (before s) ≡ Some (Whole (length (unescaped false (before s))))
 scans s h =
     let tag = unescaped false (before s) in
-    ap (λ (x : Bytes). scan_from (Whole 0) x) (sym h.form) ∙ scan-escaped tag 0 ∙ ap Whole (zero-add (length tag))
+    ap (λ (x : Bytes). scan_from (Some (Whole 0)) x) (sym h.form) ∙ scan-escaped tag 0 ∙ ap (λ (k : ℕ). Some (Whole k)) (zero-add (length tag))
 
 is-long : (s : Bytes) → Is (0 ∷ s) (long_split s)
 unfolding long_split
 is-long s = go (split (ltb (length (before s)) (length s)))
   where
-    by : length (before s) < length s → (r : Scan) → scan_from (Whole 0) (before s) ≡ r → Is (0 ∷ s) (long_by (length (before s)) r)
-    by l (Whole n) e = let g = scan_good (before s) n e in record { whole = refl; ended = l; stands = refl; tag = g.0; size = g.1 }
-    by l (Escape n) e = not-accepted (0 ∷ s) (λ p. let z : ◌≡◌ {A = ℕ} 0 1 = cc (scans s (accepted-long s p)) in omega arith)
-    by l Bad e = not-accepted (0 ∷ s) (λ p. let z : ◌≡◌ {A = ℕ} 0 1 = cc (scans s (accepted-long s p)) in omega arith)
+    by : length (before s) < length s → (r : Option Scan) → scan_from (Some (Whole 0)) (before s) ≡ r → Is (0 ∷ s) (long_by (length (before s)) r)
+    by l (Some (Whole n)) e = let g = scan_good (before s) n e in record { whole = refl; ended = l; stands = refl; tag = g.0; size = g.1 }
+    by l (Some (Escape n)) e = not-accepted (0 ∷ s) (λ p. cc (scans s (accepted-long s p)))
+    by l None e = not-accepted (0 ∷ s) (λ p. cc (scans s (accepted-long s p)))
 
     go : Split (ltb (length (before s)) (length s)) → Is (0 ∷ s) (long_split s)
-    go (inl p) = rw p (by (ltb-true _ _ p) (scan_from (Whole 0) (before s)) refl)
+    go (inl p) = rw p (by (ltb-true _ _ p) (scan_from (Some (Whole 0)) (before s)) refl)
     go (inr p) = rw p (not-accepted (0 ∷ s) (λ q. omega (arith, (accepted-long s q).ended, ltb-false)))
 
 is-split : (form : Bytes) → Is form (split_of form)
@@ -94,15 +95,15 @@ is-split (n ∷ s) = go (split (eqb n 0)) (split (leb n (length s)))
     go (inr p) (inl q) = rw (p, q) (record { whole = refl; filled = eqb-false n 0 p; within = leb-true _ _ q })
     go (inr p) (inr q) = rw (p, q) (not-accepted (n ∷ s) (λ h. omega (arith, (accepted-short n s (eqb-false n 0 p) h).within, leb-false)))
 
-split-is : (form : Bytes) (r : Form) → split_of form ≡ r → Is form r
-split-is form r e = subst (λ (x : Form). Is form x) e (is-split form)
+split-is : (form : Bytes) (r : Option Form) → split_of form ≡ r → Is form r
+split-is form r e = subst (λ (x : Option Form). Is form x) e (is-split form)
 
 -- ---- what that says of the parts
 
-pub split_parts : (form : Bytes) (r : Form) → split_of form ≡ r → Splits form r
+pub split_parts : (form : Bytes) (r : Option Form) → split_of form ≡ r → Splits form r
 unfolding text_in tag_in
-split_parts form (F.Short n) e =
-    let h = split-is form (F.Short n) e in
+split_parts form (Some (F.Short n)) e =
+    let h = split-is form (Some (F.Short n)) e in
     let p = short-form n (drop 1 form) h.filled in
     let k : n + 1 ≡ 1 + n = omega arith in
     record {
@@ -111,8 +112,8 @@ split_parts form (F.Short n) e =
       text = ap text_in (sym h.whole) ∙ p.0 ∙ rw k (drop-drop n 1 form);
       within = omega (arith, h.within, h.filled, length-drop 1 form);
     }
-split_parts form (F.Long end n) e =
-    let h = split-is form (F.Long end n) e in
+split_parts form (Some (F.Long end n)) e =
+    let h = split-is form (Some (F.Long end n)) e in
     let s = drop 1 form in
     let k : end + 2 ≡ 1 + suc end = omega arith in
     record {
@@ -122,7 +123,7 @@ split_parts form (F.Long end n) e =
       within = omega (arith, h.ended, h.stands, length-drop 1 form);
       tag_length = ap (λ (x : Bytes). length (tag_in x)) (sym h.whole) ∙ sym h.size;
     }
-split_parts form F.Cut e = split-is form F.Cut e
+split_parts form None e = split-is form None e
 
 -- The parts as the code cuts them out, and which short forms packing makes.
 module _ {form : Bytes} {n : ℕ} (h : ShortForm form n) where
@@ -140,12 +141,12 @@ module _ {form : Bytes} {n : ℕ} (h : ShortForm form n) where
 
   pub short-low : accepted form ≡ true → n ≤ 127
   short-low p =
-      let i = split-is form (F.Short n) h.split in
+      let i = split-is form (Some (F.Short n)) h.split in
       (accepted-short n (drop 1 form) i.filled (ap accepted i.whole ∙ p)).low
 
   pub short-taken : n ≤ 127 → pair_refusal (text_in form) (tag_in form) ≡ none → accepted form ≡ true
   short-taken l q =
-      let i = split-is form (F.Short n) h.split in
+      let i = split-is form (Some (F.Short n)) h.split in
       let p = short-form n (drop 1 form) i.filled in
       ap accepted (sym i.whole)
       ∙ short-accepted n (drop 1 form) i.filled
@@ -176,13 +177,13 @@ module _ {form : Bytes} {end n : ℕ} (h : LongForm form end n) where
 
   pub long-high : accepted form ≡ true → 127 < n
   long-high p =
-      let i = split-is form (F.Long end n) h.split in
+      let i = split-is form (Some (F.Long end n)) h.split in
       omega (arith, (accepted-long (drop 1 form) (ap accepted i.whole ∙ p)).high, i.size)
 
   pub long-taken : 127 < n → pair_refusal (text_in form) (tag_in form) ≡ none → accepted form ≡ true
   unfolding text_in tag_in
   long-taken l q =
-      let i = split-is form (F.Long end n) h.split in
+      let i = split-is form (Some (F.Long end n)) h.split in
       ap accepted (sym i.whole)
       ∙ long-accepted (drop 1 form)
       (record {
@@ -194,28 +195,26 @@ module _ {form : Bytes} {end n : ℕ} (h : LongForm form end n) where
 
 -- ---- the forms that packing makes
 
-abbrev pub PackedParts : Bytes → Form → Type 0
-PackedParts form (F.Short n) = (accepted form ≡ true) × ShortForm form n
-PackedParts form (F.Long end n) = (accepted form ≡ true) × LongForm form end n
-PackedParts form F.Cut = accepted form ≡ false
+abbrev pub PackedParts : Bytes → Option Form → Type 0
+PackedParts form (Some parts) = (accepted form ≡ true) × Splits form (Some parts)
+PackedParts form None = accepted form ≡ false
 
 module _ (form : Bytes) where
   pub taken-form : accepted form ≡ true → split_of form ≡ form_of form
   unfolding form_of
   taken-form p = rw p
 
-  pub cut-form : (accepted form ≡ true → ⊥) → F.Cut ≡ form_of form
+  pub cut-form : (accepted form ≡ true → ⊥) → None ≡ form_of form
   unfolding form_of
   cut-form never = rw (not-accepted form never)
 
-  taken-parts : accepted form ≡ true → (r : Form) → split_of form ≡ r → PackedParts form r
-  taken-parts p (F.Short n) e = (p, split_parts form (F.Short n) e)
-  taken-parts p (F.Long end n) e = (p, split_parts form (F.Long end n) e)
-  taken-parts p F.Cut e = split_parts form F.Cut e
+  taken-parts : accepted form ≡ true → (r : Option Form) → split_of form ≡ r → PackedParts form r
+  taken-parts p (Some parts) e = (p, split_parts form (Some parts) e)
+  taken-parts p None e = split_parts form None e
 
-  pub form-parts : (r : Form) → form_of form ≡ r → PackedParts form r
+  pub form-parts : (r : Option Form) → form_of form ≡ r → PackedParts form r
   form-parts r e = go (split (accepted form))
     where
       go : Split (accepted form) → PackedParts form r
       go (inl p) = taken-parts p r (taken-form p ∙ e)
-      go (inr p) = subst (λ (x : Form). PackedParts form x) (cut-form (λ q. clash q p) ∙ e) p
+      go (inr p) = subst (λ (x : Option Form). PackedParts form x) (cut-form (λ q. clash q p) ∙ e) p

@@ -4,7 +4,6 @@ use mathlib.Core.Path.{◌≡◌, refl, sym, ap, ◌∙◌}
 use mathlib.Core.Bool.{true, not}
 use mathlib.Core.List.{◌++◌, append_assoc}
 use mathlib.Core.Option.{Option, none, some}
-use native.Mathlib.Omega.{arith}
 use borrow.Author.Tests.{ltb-false, not-false}
 use lib.Dec.{ltb}
 use lib.ListN.{length, take, drop, length-append}
@@ -14,22 +13,22 @@ use Rattle.slices.proofs.Tests.{passed}
 use Rattle.layout.specs.Sizes.{packed_limit}
 use Rattle.refusals.specs.declared.Refusal.{Refusal}
 use Rattle.refusals.specs.declared.Refusal.TheVariants.{TooLong, ShortBuffer, CutForm}
-use Rattle.refusals.specs.declared.Written.TheVariants as W
+use Rattle.std.specs.Prelude.{Ok}
 use Rattle.string_dv_dict.specs.Packed.{packed, pair_refusal}
 use Rattle.string_dv_dict.specs.Answers.{pack_answer, pack_buffer}
 use Rattle.string_dv_dict.proofs.Laws.{legal-tagged, length-packed, wrote}
 use Rattle.string_dv_dict.proofs.Answers.{pack-done}
 use Rattle.string_dv_dict_split.specs.Forms.{tag_in, text_in, accepted}
 use Rattle.string_dv_dict_split.proofs.Laws.{pack-unpack, unpack-pack}
-use Rattle.string_dv_dict_unpack.specs.declared.Unpacked.TheVariants.{Lengths}
-use Rattle.string_dv_dict_unpack.specs.Answers.{unpacked_by, unpack_answer, unpack_buffer}
+use Rattle.string_dv_dict_unpack.specs.declared.Lengths.{Lengths}
+use Rattle.string_dv_dict_unpack.specs.Answers.{unpacked_as, unpacked_by, unpack_answer, unpack_buffer}
 use Rattle.string_dv_dict_unpack.proofs.Answers.{unpack-done}
 
 -- ---- the entries, one after the other
 
 -- A packed form is unpacked into its text and tag, where the buffer has room for both.
 pub packed-unpacks : (text tag buffer : Bytes) → pair_refusal text tag ≡ none → length text + length tag ≤ length buffer
-    → (unpack_answer (packed text tag) (length buffer) ≡ Lengths (length text) (length tag))
+    → (unpack_answer (packed text tag) (length buffer) ≡ unpacked_as (length text) (length tag))
     × (unpack_buffer (packed text tag) buffer ≡ text ++ tag ++ drop (length text + length tag) buffer)
 packed-unpacks text tag buffer e h =
     let p = pack-unpack text tag e in
@@ -47,11 +46,13 @@ pub record Unpacks (form : Bytes) (room m n : ℕ) : Type 0 where
   pub text-length : length (text_in form) ≡ m
   pub tag-length : length (tag_in form) ≡ n
 
-both-lengths : (text tag : Bytes) (o : Option Refusal) (m n : ℕ) → unpacked_by text tag o ≡ Lengths m n → (o ≡ none) × (length text ≡ m) × (length tag ≡ n)
-both-lengths text tag none m n e = (refl, cc, cc)
-both-lengths text tag (some why) m n e = let z : ◌≡◌ {A = ℕ} 0 1 = cc in absurd (omega arith)
+both-lengths : (text tag : Bytes) (o : Option Refusal) (m n : ℕ) → unpacked_by text tag o ≡ unpacked_as m n → (o ≡ none) × (length text ≡ m) × (length tag ≡ n)
+both-lengths text tag none m n e =
+    let r : ◌≡◌ {A = Lengths} (record { text = length text; tag = length tag }) (record { text = m; tag = n }) = cc in
+    (refl, ap (λ (x : Lengths). x.text) r, ap (λ (x : Lengths). x.tag) r)
+both-lengths text tag (some why) m n e = cc
 
-pub unpacks : (form : Bytes) (room m n : ℕ) → unpack_answer form room ≡ Lengths m n → Unpacks form room m n
+pub unpacks : (form : Bytes) (room m n : ℕ) → unpack_answer form room ≡ unpacked_as m n → Unpacks form room m n
 unfolding unpack_answer
 unpacks form room m n e =
     let b = both-lengths (text_in form) (tag_in form) _ m n e in
@@ -67,16 +68,16 @@ unpacks form room m n e =
     }
 
 -- A form that is unpacked is what packing makes of its text and tag, which are a tagged string.
-pub unpacked-packs : (form : Bytes) (room m n : ℕ) → unpack_answer form room ≡ Lengths m n
+pub unpacked-packs : (form : Bytes) (room m n : ℕ) → unpack_answer form room ≡ unpacked_as m n
     → (pair_refusal (text_in form) (tag_in form) ≡ none) × (form ≡ packed (text_in form) (tag_in form))
 unpacked-packs form room m n e = let p = unpack-pack form (unpacks form room m n e).taken in (p.0, sym p.1)
 
 -- ---- the same, said of the buffers alone
 
 -- The k bytes that packing wrote are unpacked into the text and the tag.
-pub pack-then-unpack : (text tag first second : Bytes) (k : ℕ) → pack_answer text tag (length first) ≡ W.Length k → length text + length tag ≤ length second →
+pub pack-then-unpack : (text tag first second : Bytes) (k : ℕ) → pack_answer text tag (length first) ≡ Ok k → length text + length tag ≤ length second →
     let form = take k (pack_buffer text tag first) in
-    (unpack_answer form (length second) ≡ Lengths (length text) (length tag))
+    (unpack_answer form (length second) ≡ unpacked_as (length text) (length tag))
     × (unpack_buffer form second ≡ text ++ tag ++ drop (length text + length tag) second)
 pack-then-unpack text tag first second k e h =
     let w = wrote text tag (length first) k e in
@@ -85,10 +86,10 @@ pack-then-unpack text tag first second k e h =
     rw f (packed-unpacks text tag second w.0 h)
 
 -- The m bytes and the n bytes that unpacking wrote are packed into the form.
-pub unpack-then-pack : (form first second : Bytes) (m n : ℕ) → unpack_answer form (length first) ≡ Lengths m n → length form ≤ length second →
+pub unpack-then-pack : (form first second : Bytes) (m n : ℕ) → unpack_answer form (length first) ≡ unpacked_as m n → length form ≤ length second →
     let text = take m (unpack_buffer form first) in
     let tag = take n (drop m (unpack_buffer form first)) in
-    (pack_answer text tag (length second) ≡ W.Length (length form)) × (pack_buffer text tag second ≡ form ++ drop (length form) second)
+    (pack_answer text tag (length second) ≡ Ok (length form)) × (pack_buffer text tag second ≡ form ++ drop (length form) second)
 unpack-then-pack form first second m n e h =
     let u = unpacks form (length first) m n e in
     let p = unpack-pack form u.taken in

@@ -31,7 +31,7 @@ unfolding block_rule
 granted-for s ks k n e = go (block_for s (granted s ks) k (grants_of k (granted s ks))) refl e
   where
     go : (o : Option ℕ) → block_for s (granted s ks) k (grants_of k (granted s ks)) ≡ o → number_in s (grants_of k (granted s ks)) o ≡ some n → Granted s ks k n
-    go none p q = let z : ◌≡◌ {A = ℕ} 0 1 = cc in absurd (omega arith)
+    go none p q = cc
     go (some g) p q = let u : n ≡ g * 2 ^ s.w + grants_of k (granted s ks) % 2 ^ s.w = cc in record { block = g; found = p; number = u }
 
 -- The grants with one more in the block g.

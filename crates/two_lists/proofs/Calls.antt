@@ -104,8 +104,8 @@ answered (AddAnswer.fresh n) = inr (n, inl refl)
 answered (AddAnswer.known n) = inr (n, inr refl)
 
 not-both : (r : AddAnswer) (n : ℕ) → IsRefused r → Gave r n → ⊥
-not-both r n x (inl g) = let e : AddAnswer.refused x.0 ≡ AddAnswer.fresh n = sym x.1 ∙ g in let z : ◌≡◌ {A = ℕ} 0 1 = cc in absurd (omega arith)
-not-both r n x (inr g) = let e : AddAnswer.refused x.0 ≡ AddAnswer.known n = sym x.1 ∙ g in let z : ◌≡◌ {A = ℕ} 0 1 = cc in absurd (omega arith)
+not-both r n x (inl g) = let e : AddAnswer.refused x.0 ≡ AddAnswer.fresh n = sym x.1 ∙ g in cc
+not-both r n x (inr g) = let e : AddAnswer.refused x.0 ≡ AddAnswer.known n = sym x.1 ∙ g in cc
 
 -- ---- one call, after calls that did the same to the names
 
@@ -159,11 +159,11 @@ state-looked-up s st G = record { number = λ a. by_name a (number_of s st a) re
   where
     by_name : (a : Name) (o : Option ℕ) → number_of s st a ≡ o → ((n : ℕ) × (number_of s st a ≡ some n)) ⊎ ((n : ℕ) → ¬ (number_of s st a ≡ some n))
     by_name a (some n) e = inl (n, e)
-    by_name a none e = inr (λ n g. let w : none ≡ some n = sym e ∙ g in let z : ◌≡◌ {A = ℕ} 0 1 = cc in absurd (omega arith))
+    by_name a none e = inr (λ n g. let w : none ≡ some n = sym e ∙ g in cc)
 
     by_number : (n : ℕ) (o : Option Name) → name_of s st n ≡ o → ((a : Name) × (number_of s st a ≡ some n)) ⊎ ((a : Name) → ¬ (number_of s st a ≡ some n))
     by_number n (some a) e = inl (a, number-back s st G a n e)
-    by_number n none e = inr (λ a g. let w : none ≡ some a = sym e ∙ read_back s st G a n g in let z : ◌≡◌ {A = ℕ} 0 1 = cc in absurd (omega arith))
+    by_number n none e = inr (λ a g. let w : none ≡ some a = sym e ∙ read_back s st G a n g in cc)
 
 -- ---- the whole lists
 
@@ -190,8 +190,8 @@ module _ (o : Before) (L : LookedUp o) where
 
   pub same-effects : (es fs : List Event) → Demand3 o es → Demand3 o fs → SameCalls es fs → RefusedAlike es fs → effects es ≡ effects fs
   same-effects [] [] D E c alike = refl
-  same-effects [] (f ∷ fs) D E c alike = let z : ◌≡◌ {A = ℕ} 0 1 = cc in absurd (omega arith)
-  same-effects (e ∷ es) [] D E c alike = let z : ◌≡◌ {A = ℕ} 0 1 = cc in absurd (omega arith)
+  same-effects [] (f ∷ fs) D E c alike = cc
+  same-effects (e ∷ es) [] D E c alike = cc
   same-effects (e ∷ es) (f ∷ fs) D E c alike =
       let head : call_of e ≡ call_of f = cc in
       let rest : map call_of es ≡ map call_of fs = cc in

@@ -135,8 +135,8 @@ module _ (s : Sizes) (st : State) (G : Good s st) (few : FewHeads st) (o : Befor
         go (number_of s (now xs) a) (sym e ∙ t ∙ rw i)
       where
         go : (n : Option ℕ) → FindAnswer.refused why ≡ find_by n → ⊥
-        go none q = let z : ◌≡◌ {A = ℕ} 0 1 = cc in absurd (omega arith)
-        go (some n) q = let z : ◌≡◌ {A = ℕ} 0 1 = cc in absurd (omega arith)
+        go none q = cc
+        go (some n) q = cc
 
     read_short : (xs : List Event) (n : ℕ) (x y : Bytes) (r : ReadAnswer) (a : Name) → At (read n x r y) xs es
         → Issued o a n (effects xs) → length x < size a → (r ≡ ReadAnswer.refused ShortBuffer) × (y ≡ x)

@@ -5,7 +5,6 @@ use mathlib.Core.Logic.{◌≢◌, ◌⊎◌, inl, inr}
 use mathlib.Core.Bool.{true}
 use mathlib.Core.List.{List, [], ◌∷◌}
 use mathlib.Core.Option.{some}
-use native.Mathlib.Omega.{arith}
 use Rattle.slices.proofs.Tests.{Split, split, clash}
 use Rattle.layout.specs.declared.Sizes.{Sizes}
 use Rattle.blocks.specs.Rule.{block_rule}
@@ -63,7 +62,7 @@ Stepwise s (no-effect ∷ es) = Stepwise s es
 
 -- Fresh and known are two answers.
 apart : (m n : ℕ) → AddAnswer.fresh m ≢ AddAnswer.known n
-apart m n e = let z : ◌≡◌ {A = ℕ} 0 1 = cc in absurd (omega arith)
+apart m n e = cc
 
 pub stepwise : (s : Sizes) (es : List Event) → Demand3 (nothing s) es → Stepwise s (effects es)
 stepwise s [] D = tt

@@ -1,68 +1,101 @@
--- Passing one character of two or three bytes changes nothing, if its first byte allows all tail bytes. Assumes nothing.
-use Prim.Native.Nat.{ℕ, zero, suc, ◌+◌, ◌-◌, ◌≤◌}
-use mathlib.Core.Path.{◌≡◌, sym, ◌∙◌}
+-- Whole characters of two or three bytes, if their first byte allows all tail bytes. Passing whole characters changes nothing. Assumes nothing.
+use Prim.Native.Nat.{ℕ, zero, suc, ◌+◌, ◌-◌, ◌≤◌, ◌<◌}
+use mathlib.Core.Path.{◌≡◌, refl, sym, ap, ◌∙◌}
 use mathlib.Core.Bool.{true, ◌&&◌}
+use mathlib.Core.List.{[], ◌∷◌, ◌++◌}
 use native.Mathlib.Omega.{arith}
-use lib.ListN.{length, get_or, drop}
-use borrow.Author.Tests.{ne_eqb}
+use lib.Dec.{ltb}
+use lib.ListN.{length, get_or, take, drop, take-append-drop, length-drop}
+use lib.Seq.{take_all, drop-cons}
+use Rattle.std.proofs.lemmas.List.{drop-drop, length-take-le}
+use Rattle.std.specs.Array.{IsFirstChunk}
+use Rattle.std.specs.Prelude.{All}
+use borrow.Author.Tests.{ne_eqb, ltb-true}
 use Rattle.slices.specs.Bytes.{Bytes}
 use Rattle.slices.proofs.Tests.{and_left, and_right}
-use Rattle.utf8_char.specs.declared.Step.TheVariants.{Due}
 use Rattle.utf8_char.specs.Grammar.{In, Tail}
-use Rattle.utf8_char.specs.Text.{within, char_start, first_of, after, text_from}
-use Rattle.utf8.specs.Passing.{is_two, is_three, Passed}
-use Rattle.utf8_char.proofs.Bounds.{inside, bounds, first_two, first-e1-ec, text-more}
+use Rattle.utf8_char.specs.Text.{Step, awaiting, within, char_start, first_of, after, text_from}
+use Rattle.utf8.specs.Passing.{ascii, IsChar, Characters, Passed}
+use Rattle.utf8_char.proofs.Bounds.{inside, bounds, first_one, first_two, first-e1-ec}
 
--- The n bytes from i on are tail bytes.
-abbrev Tails : ℕ → Bytes → ℕ → Type 0
-Tails zero s i = Unit
-Tails (suc n) s i = Tail (get_or s i 0) × Tails n s (i + 1)
+-- ASCII bytes are characters by themselves.
+pub ascii-characters : (c : Bytes) → ascii c ≡ true → Characters c
+ascii-characters [] e rest = refl
+ascii-characters (b ∷ c) e rest =
+    let h = ltb-true b 0x80 (and_left (ltb b 0x80) (ascii c) e) in
+    ap (λ (x : Step). text_from x (c ++ rest)) (first_one b (omega arith))
+    ∙ ascii-characters c (and_right (ltb b 0x80) (ascii c) e) rest
 
--- A tail byte takes one off what is due.
-one_less : (n b : ℕ) → Tail b → Due n 0x80 0xBF ≡ after (Due (suc n) 0x80 0xBF) b
-one_less n b p =
-    let m : suc n - 1 ≡ n = omega arith in
-    rw (ne_eqb (suc n) 0 (omega arith), inside 0x80 0xBF b p, m)
+-- As many tail bytes as are due.
+tails : (c rest : Bytes) → All Tail c → text_from (awaiting (length c) 0x80 0xBF) (c ++ rest) ≡ text_from char_start rest
+tails [] rest a = refl
+tails (b ∷ c) rest a =
+    let m : suc (length c) - 1 ≡ length c = omega arith in
+    let p : after (awaiting (suc (length c)) 0x80 0xBF) b ≡ awaiting (length c) 0x80 0xBF =
+    rw (ne_eqb (suc (length c)) 0 (omega arith), inside 0x80 0xBF b (a 0 0 (omega arith)), m) in
+    ap (λ (x : Step). text_from x (c ++ rest)) p ∙ tails c rest (λ k d h. a (suc k) d (omega arith))
 
-pass-tails : (n : ℕ) (s : Bytes) (i : ℕ) → i + n ≤ length s → Tails n s i
-    → text_from char_start (drop (i + n) s) ≡ text_from (Due n 0x80 0xBF) (drop i s)
-pass-tails zero s i h t = let p : i + 0 ≡ i = omega arith in rw p
-pass-tails (suc n) s i h t =
-    let p : i + suc n ≡ i + 1 + n = omega arith in
-    rw p
-    (pass-tails n s (i + 1) (omega arith) t.1
-    ∙ text-more (Due (suc n) 0x80 0xBF) (Due n 0x80 0xBF) i s (omega arith) (one_less n (get_or s i 0) t.0))
+-- First bytes from lo to hi after which all the other bytes of c are due.
+pub char-characters : (lo hi : ℕ) (c : Bytes) → ((b : ℕ) → In lo hi b → first_of b ≡ awaiting (length c - 1) 0x80 0xBF)
+    → IsChar lo hi c → Characters c
+char-characters lo hi [] f e = absurd e
+char-characters lo hi (b ∷ c) f e = λ rest.
+    let m : suc (length c) - 1 ≡ length c = omega arith in
+    ap (λ (x : Step). text_from x (c ++ rest)) (rw m at (f b e.0)) ∙ tails c rest e.1
 
--- A first byte after which n tail bytes are due, and these.
-pass-char : (n : ℕ) (s : Bytes) (i : ℕ) → i + suc n ≤ length s → first_of (get_or s i 0) ≡ Due n 0x80 0xBF → Tails n s (i + 1)
-    → Passed s i (i + suc n)
-pass-char n s i h e t =
-    let p : i + suc n ≡ i + 1 + n = omega arith in
-    let q = text-more char_start (Due n 0x80 0xBF) i s (omega arith) (sym e) in
-    (omega arith, h, rw p (pass-tails n s (i + 1) (omega arith) t ∙ q))
+pub chunk-length : (n : ℕ) (xs ys : Bytes) → IsFirstChunk xs ys n → length ys ≡ n
+chunk-length n xs ys c = rw c.same (length-take-le n xs c.enough)
 
--- What the tests say, whatever the bounds of the first byte.
-two_in : (lo hi a b : ℕ) → (within lo hi a && within 0x80 0xBF b) ≡ true → In lo hi a × Tail b
-two_in lo hi a b e =
-    let p = within lo hi a in
-    let q = within 0x80 0xBF b in
-    (bounds lo hi a (and_left p q e), bounds 0x80 0xBF b (and_right p q e))
+-- The next n bytes are whole characters.
+pub pass-chunk : (n : ℕ) (s bytes : Bytes) (i k : ℕ) → Passed s i k → IsFirstChunk (take (length s - k) (drop k s)) bytes n → Characters bytes
+    → Passed s i (k + n)
+pass-chunk n s bytes i k p c f =
+    let w : take (length s - k) (drop k s) ≡ drop k s = take_all (length s - k) (drop k s) (omega (arith, length-drop k s)) in
+    let l : n ≤ length (drop k s) = rw w at c.enough in
+    let b : bytes ≡ take n (drop k s) = rw w at c.same in
+    let q : bytes ++ drop (k + n) s ≡ drop k s = rw (b, ← drop-drop n k s) (take-append-drop n (drop k s)) in
+    let e = f (drop (k + n) s) in
+    (omega (arith, p.0), omega (arith, p.1, length-drop k s), sym (rw q at e) ∙ p.2)
 
-three-in : (lo hi a b c : ℕ) → (within lo hi a && within 0x80 0xBF b && within 0x80 0xBF c) ≡ true → In lo hi a × Tail b × Tail c
-three-in lo hi a b c e =
-    let p = within lo hi a && within 0x80 0xBF b in
-    let q = within 0x80 0xBF c in
-    let r = two_in lo hi a b (and_left p q e) in
-    (r.0, r.1, bounds 0x80 0xBF c (and_right p q e))
+-- ---- one character of two or of three bytes
 
-pub pass-two : (s : Bytes) (i : ℕ) → i + 2 ≤ length s → is_two (get_or s i 0) (get_or s (i + 1) 0) ≡ true → Passed s i (i + 2)
+-- Whole characters that stand at i.
+pass-at : (s c : Bytes) (i k : ℕ) → i ≤ k → k ≤ length s → drop i s ≡ c ++ drop k s → Characters c → Passed s i k
+pass-at s c i k h l e f = (h, l, sym (ap (λ (r : Bytes). text_from char_start r) e ∙ f (drop k s)))
+
+all_nil : All Tail []
+all_nil k d h = omega (arith, h)
+
+all_cons : (b : ℕ) (c : Bytes) → Tail b → All Tail c → All Tail (b ∷ c)
+all_cons b c t a zero d h = t
+all_cons b c t a (suc k) d h = a k d (omega (arith, h))
+
+first_dropped : (s : Bytes) (j k : ℕ) → j < length s → suc j ≡ k → drop j s ≡ get_or s j 0 ∷ drop k s
+first_dropped s j k h p = drop-cons s j 0 h ∙ ap (λ (n : ℕ). get_or s j 0 ∷ drop n s) p
+
+pub pass-two : (s : Bytes) (i : ℕ) → i + 2 ≤ length s → (within 0xC2 0xDF (get_or s i 0) && within 0x80 0xBF (get_or s (i + 1) 0)) ≡ true
+    → Passed s i (i + 2)
 pass-two s i h e =
-    let t = two_in _ _ (get_or s i 0) (get_or s (i + 1) 0) e in
-    pass-char 1 s i h (first_two _ t.0) (t.1, tt)
+    let a = get_or s i 0 in
+    let b = get_or s (i + 1) 0 in
+    let x = bounds 0xC2 0xDF a (and_left _ _ e) in
+    let y = bounds 0x80 0xBF b (and_right _ _ e) in
+    let d = first_dropped s i (i + 1) (omega arith) (omega arith) ∙ ap (λ (r : Bytes). a ∷ r) (first_dropped s (i + 1) (i + 2) (omega arith) (omega arith)) in
+    pass-at s (a ∷ b ∷ []) i (i + 2) (omega arith) h d
+    (char-characters 0xC2 0xDF (a ∷ b ∷ []) first_two (x, all_cons b [] y all_nil))
 
-pub pass-three : (s : Bytes) (i : ℕ) → i + 3 ≤ length s → is_three (get_or s i 0) (get_or s (i + 1) 0) (get_or s (i + 2) 0) ≡ true
+pub pass-three : (s : Bytes) (i : ℕ) → i + 3 ≤ length s
+    → (within 0xE1 0xEC (get_or s i 0) && within 0x80 0xBF (get_or s (i + 1) 0) && within 0x80 0xBF (get_or s (i + 2) 0)) ≡ true
     → Passed s i (i + 3)
 pass-three s i h e =
-    let t = three-in _ _ (get_or s i 0) (get_or s (i + 1) 0) (get_or s (i + 2) 0) e in
-    let p : i + 1 + 1 ≡ i + 2 = omega arith in
-    pass-char 2 s i h (first-e1-ec _ t.0) (t.1, (rw p t.2, tt))
+    let a = get_or s i 0 in
+    let b = get_or s (i + 1) 0 in
+    let c = get_or s (i + 2) 0 in
+    let ab = and_left _ _ e in
+    let x = bounds 0xE1 0xEC a (and_left _ _ ab) in
+    let y = bounds 0x80 0xBF b (and_right _ _ ab) in
+    let z = bounds 0x80 0xBF c (and_right _ _ e) in
+    let d = first_dropped s i (i + 1) (omega arith) (omega arith) ∙ ap (λ (r : Bytes). a ∷ r) (first_dropped s (i + 1) (i + 2) (omega arith) (omega arith))
+    ∙ ap (λ (r : Bytes). a ∷ b ∷ r) (first_dropped s (i + 2) (i + 3) (omega arith) (omega arith)) in
+    pass-at s (a ∷ b ∷ c ∷ []) i (i + 3) (omega arith) h d
+    (char-characters 0xE1 0xEC (a ∷ b ∷ c ∷ []) first-e1-ec (x, all_cons b (c ∷ []) y (all_cons c [] z all_nil)))

@@ -6,12 +6,11 @@ use mathlib.Core.List.{[], ◌∷◌, ◌++◌}
 use native.Mathlib.Omega.{arith}
 use lib.Dec.{eqb}
 use borrow.Author.Tests.{eqb-true, ne_eqb}
+use Rattle.std.specs.Prelude.{None}
 use Rattle.slices.specs.Bytes.{Bytes}
 use Rattle.slices.proofs.Tests.{clash}
-use Rattle.utf8_char.specs.declared.Step.{Step}
-use Rattle.utf8_char.specs.declared.Step.TheVariants.{Due, Bad}
 use Rattle.utf8_char.specs.Grammar.{In, Tail, Char, one, two, three-e0, three-e1-ec, three-ed, three-ee-ef, four-f0, four-f1-f3, four-f4, Octets, none, more}
-use Rattle.utf8_char.specs.Text.{within, char_start, first_of, after, text_from, is_text}
+use Rattle.utf8_char.specs.Text.{Step, awaiting, within, char_start, first_of, after, text_from, is_text}
 use Rattle.utf8_char.proofs.Bounds.{inside, below, above, bounds, first_one, first_two, first-e1-ec, first-ee-ef, first-f1-f3, choose, bad-stays}
 
 -- ---- accepted, so derived
@@ -35,7 +34,7 @@ then-four : {a lo hi : ℕ} {s : Bytes} → ((b c d : ℕ) → In lo hi b → Ta
     → Rest 3 lo hi s → Octets (a ∷ s)
 then-four f (tail q (tail u (tail v (whole r)))) = more (f _ _ _ q u v) r
 
-begins : (b : ℕ) (s : Bytes) → ((n lo hi : ℕ) → text_from (Due n lo hi) s ≡ true → Rest n lo hi s)
+begins : (b : ℕ) (s : Bytes) → ((n lo hi : ℕ) → text_from (awaiting n lo hi) s ≡ true → Rest n lo hi s)
     → text_from (first_of b) s ≡ true → Octets (b ∷ s)
 unfolding first_of
 begins b s ih =
@@ -51,15 +50,15 @@ begins b s ih =
     (choose P (eqb b 0xF4) (λ p e. rw (eqb-true b 0xF4 p) (then-four (λ b c d. four-f4) (ih _ _ _ e)))
     (λ e. clash e (bad-stays s))))))))))
 
-goes_on : (n lo hi b : ℕ) (s : Bytes) → (text_from (Due n 0x80 0xBF) s ≡ true → Rest n 0x80 0xBF s)
-    → text_from (Due (suc n) lo hi) (b ∷ s) ≡ true → Rest (suc n) lo hi (b ∷ s)
+goes_on : (n lo hi b : ℕ) (s : Bytes) → (text_from (awaiting n 0x80 0xBF) s ≡ true → Rest n 0x80 0xBF s)
+    → text_from (awaiting (suc n) lo hi) (b ∷ s) ≡ true → Rest (suc n) lo hi (b ∷ s)
 goes_on n lo hi b s ih e =
     let P : Step → Type 0 = λ x. text_from x s ≡ true → Rest (suc n) lo hi (b ∷ s) in
     let m : suc n - 1 ≡ n = omega arith in
     choose P (within lo hi b) (λ p f. tail (bounds lo hi b p) (ih (rw m at f))) (λ f. clash f (bad-stays s))
     (rw (ne_eqb (suc n) 0 (omega arith)) at e)
 
-derives-from : (s : Bytes) (n lo hi : ℕ) → text_from (Due n lo hi) s ≡ true → Rest n lo hi s
+derives-from : (s : Bytes) (n lo hi : ℕ) → text_from (awaiting n lo hi) s ≡ true → Rest n lo hi s
 derives-from [] zero lo hi e = whole none
 derives-from [] (suc n) lo hi e = let z : suc n ≡ 0 = eqb-true (suc n) 0 e in absurd (omega arith)
 derives-from (b ∷ s) zero lo hi e = whole (begins b s (derives-from s) e)
@@ -74,13 +73,13 @@ derives s e = octets (derives-from s 0 0x80 0xBF e)
 
 -- ---- derived, so accepted
 
-tail-1 : (lo hi b : ℕ) → In lo hi b → after (Due 1 lo hi) b ≡ char_start
+tail-1 : (lo hi b : ℕ) → In lo hi b → after (awaiting 1 lo hi) b ≡ char_start
 tail-1 lo hi b q = rw (inside lo hi b q)
 
-tail-2 : (lo hi b c : ℕ) → In lo hi b → Tail c → after (after (Due 2 lo hi) b) c ≡ char_start
+tail-2 : (lo hi b c : ℕ) → In lo hi b → Tail c → after (after (awaiting 2 lo hi) b) c ≡ char_start
 tail-2 lo hi b c q u = rw (inside lo hi b q) (tail-1 0x80 0xBF c u)
 
-tail-3 : (lo hi b c d : ℕ) → In lo hi b → Tail c → Tail d → after (after (after (Due 3 lo hi) b) c) d ≡ char_start
+tail-3 : (lo hi b c d : ℕ) → In lo hi b → Tail c → Tail d → after (after (after (awaiting 3 lo hi) b) c) d ≡ char_start
 tail-3 lo hi b c d q u v = rw (inside lo hi b q) (tail-2 0x80 0xBF c d u v)
 
 -- A character leaves nothing due.
@@ -108,7 +107,7 @@ derived-is-text (more {c} {s} h r) = char-text h s ∙ derived-is-text r
 -- ---- what the grammar is known to rule out
 
 -- Bytes that no character begins with derive nothing, whatever follows.
-refused : (a b : ℕ) (s : Bytes) → after (first_of a) b ≡ Bad → Octets (a ∷ b ∷ s) → ⊥
+refused : (a b : ℕ) (s : Bytes) → after (first_of a) b ≡ None → Octets (a ∷ b ∷ s) → ⊥
 unfolding is_text
 refused a b s e o = false≢true (sym (ap (λ (x : Step). text_from x s) e ∙ bad-stays s) ∙ derived-is-text o)
 

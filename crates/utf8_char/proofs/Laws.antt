@@ -5,11 +5,10 @@ use mathlib.Core.Logic.{inl, inr}
 use mathlib.Core.List.{[], ◌∷◌, ◌++◌}
 use native.Mathlib.Omega.{arith}
 use lib.Dec.{eqb}
+use Rattle.std.specs.Prelude.{Some, None}
 use Rattle.slices.specs.Bytes.{Bytes}
 use Rattle.slices.proofs.Tests.{Split, split}
-use Rattle.utf8_char.specs.declared.Step.{Step}
-use Rattle.utf8_char.specs.declared.Step.TheVariants.{Due, Bad}
-use Rattle.utf8_char.specs.Text.{within, char_start, first_of, after, text_from, is_text}
+use Rattle.utf8_char.specs.Text.{Step, within, char_start, first_of, after, text_from, is_text}
 use Rattle.utf8_char.proofs.Bounds.{below, first_one, choose}
 
 -- ---- some bytes written as two
@@ -25,8 +24,8 @@ pub data WrittenAs (f : ℕ → Bytes) (b : ℕ) : Type 0 where
 
 -- No tail byte that may be due is a character of its own.
 abbrev High : Step → Type 0
-High Bad = Unit
-High (Due n lo hi) = 0x80 ≤ lo
+High None = Unit
+High (Some d) = 0x80 ≤ d.lo
 
 high-first : (b : ℕ) → High (first_of b)
 unfolding first_of
@@ -42,17 +41,17 @@ high-first b =
     (choose High (eqb b 0xF4) (λ _. omega arith) tt))))))))
 
 high_after : (x : Step) (b : ℕ) → High (after x b)
-high_after Bad b = tt
-high_after (Due n lo hi) b = choose High (eqb n 0) (λ _. high-first b) (choose High (within lo hi b) (λ _. omega arith) tt)
+high_after None b = tt
+high_after (Some d) b = choose High (eqb d.left 0) (λ _. high-first b) (choose High (within d.lo d.hi b) (λ _. omega arith) tt)
 
 -- Two bytes that are each a character have the effect of one: both are refused where a tail byte is due, and taken elsewhere.
 single : (x : Step) → High x → (b y z : ℕ) → b ≤ 0x7F → y ≤ 0x7F → z ≤ 0x7F → after (after x y) z ≡ after x b
-single Bad h b y z p q r = refl
-single (Due n lo hi) h b y z p q r = go (split (eqb n 0))
+single None h b y z p q r = refl
+single (Some d) h b y z p q r = go (split (eqb d.left 0))
   where
-    go : Split (eqb n 0) → after (after (Due n lo hi) y) z ≡ after (Due n lo hi) b
+    go : Split (eqb d.left 0) → after (after (Some d) y) z ≡ after (Some d) b
     go (inl e) = rw (e, first_one y (omega arith), first_one z (omega arith), first_one b (omega arith))
-    go (inr e) = rw (e, below lo hi y (omega arith), below lo hi b (omega arith))
+    go (inr e) = rw (e, below d.lo d.hi y (omega arith), below d.lo d.hi b (omega arith))
 
 written_from : (f : ℕ → Bytes) → ((b : ℕ) → WrittenAs f b) → (t : Bytes) (x : Step) → High x
     → text_from x (each_as f t) ≡ text_from x t

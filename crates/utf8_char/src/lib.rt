@@ -1,88 +1,66 @@
 // One character of UTF-8 by RFC 3629, byte by byte: no surrogates, nothing above U+10FFFF, shortest forms only.
 #![tactic(auto)]
 
-ghost use Rattle.std.specs.Prelude.{◌≡◌, ◌<◌, length};
+ghost use Rattle.std.specs.Prelude.{◌≡◌, ◌<◌, length, Some};
 ghost use Rattle.utf8_char.specs.Text.{first_of, after};
 ghost use Rattle.utf8_char.specs.Ends.{Ends};
 
-// What the next byte must be, by the bytes read so far.
-#[derive(Clone, Copy)]
-pub enum Step {
-    // How many tail bytes of a character are still due, and the least and the greatest value of the next one.
-    Due(usize, u8, u8),
-    // No text begins with these bytes.
-    Bad,
+// How many tail bytes of a character are still due, and the least and the greatest value of the next one.
+#[derive(Clone, Copy, Debug, PartialEq, Eq)]
+pub struct Due {
+    left: usize,
+    lo: u8,
+    hi: u8,
 }
 
-// The first byte of a character says how many tail bytes follow, and sometimes bounds the first of them.
-fn first(b: u8) -> Step
+// The first byte of a character says how many tail bytes follow, and sometimes bounds the first of them. None: no text begins with it.
+#[tactic(auto, using(crate::proofs::Bounds::first_bytes), unfolding(crate::specs::Text::first_of))]
+fn first(b: u8) -> Option<Due>
     ensures { result ≡ first_of b }
 {
-    if b < 0x80 {
-        return Step::Due(0, 0x80, 0xBF);
-    }
-    if b < 0xC2 {
-        return Step::Bad;
-    }
-    if b < 0xE0 {
-        return Step::Due(1, 0x80, 0xBF);
-    }
-    match b {
-        0xE0 => Step::Due(2, 0xA0, 0xBF),
-        0xE1..=0xEC => Step::Due(2, 0x80, 0xBF),
-        0xED => Step::Due(2, 0x80, 0x9F),
-        0xEE..=0xEF => Step::Due(2, 0x80, 0xBF),
-        0xF0 => Step::Due(3, 0x90, 0xBF),
-        0xF1..=0xF3 => Step::Due(3, 0x80, 0xBF),
-        0xF4 => Step::Due(3, 0x80, 0x8F),
-        _ => Step::Bad,
+    let (left, lo, hi) = match b {
+        0x00..=0x7F => (0, 0x80, 0xBF),
+        0xC2..=0xDF => (1, 0x80, 0xBF),
+        0xE0 => (2, 0xA0, 0xBF),
+        0xE1..=0xEC => (2, 0x80, 0xBF),
+        0xED => (2, 0x80, 0x9F),
+        0xEE..=0xEF => (2, 0x80, 0xBF),
+        0xF0 => (3, 0x90, 0xBF),
+        0xF1..=0xF3 => (3, 0x80, 0xBF),
+        0xF4 => (3, 0x80, 0x8F),
+        _ => return None,
+    };
+    Some(Due { left, lo, hi })
+}
+
+impl Due {
+    // Takes one more byte. None: no text begins with the bytes read so far.
+    fn next(self, b: u8) -> Option<Due>
+        ensures { result ≡ after (Some self) b }
+    {
+        if self.left == 0 {
+            return first(b);
+        }
+        if !(self.lo..=self.hi).contains(&b) {
+            return None;
+        }
+        Some(Due {
+            left: self.left - 1,
+            lo: 0x80,
+            hi: 0xBF,
+        })
     }
 }
 
-// Takes one more byte b. Before it `left` tail bytes are due, and the next one must be from `lo` to `hi`.
-fn next(left: usize, lo: u8, hi: u8, b: u8) -> Step
-    ensures { result ≡ after (Step.Due left lo hi) b }
-{
-    if left == 0 {
-        return first(b);
-    }
-    if b < lo {
-        return Step::Bad;
-    }
-    if hi < b {
-        return Step::Bad;
-    }
-    let due = left - 1;
-    Step::Due(due, 0x80, 0xBF)
-}
-
-// Where a character ends. Bad: the bytes are no character.
-#[derive(Clone, Copy)]
-pub enum End {
-    At(usize),
-    Bad,
-}
-
-// Where the character that begins at i ends.
-pub fn char_end(s: &[u8], i: usize) -> End
+// Where the character that begins at i ends. None: the bytes are no character.
+pub fn char_end(s: &[u8], i: usize) -> Option<usize>
     requires { i < length s.now }
     ensures { Ends s.now i result }
 {
-    let Step::Due(mut left, mut lo, mut hi) = first(s[i]) else {
-        return End::Bad;
-    };
-    let mut k = i + 1;
-    while left > 0 {
-        if k == s.len() {
-            return End::Bad;
-        }
-        let Step::Due(n, l, h) = next(left, lo, hi, s[k]) else {
-            return End::Bad;
-        };
-        left = n;
-        lo = l;
-        hi = h;
-        k += 1;
+    let mut due = first(s[i])?;
+    let tail = s[i + 1..].get(..due.left)?;
+    for b in tail {
+        due = due.next(*b)?;
     }
-    End::At(k)
+    Some(i + 1 + tail.len())
 }

@@ -5,11 +5,13 @@ use Prim.Native.Nat.{ℕ, zero, suc, ◌+◌, ◌*◌, ◌/◌, ◌%◌, ◌^◌
 use native.Mathlib.Omega.{arith}
 use native.Mathlib.Nat.{add-zero, pow-suc}
 use native.Mathlib.Numerals.{towards_suc}
-use lib.ListN.{length, get_or, set, length-set}
+use lib.ListN.{length, get_or, take, set, length-set}
 use lib.Seq.{sets, length-sets, get_or-set_same}
+use Rattle.std.proofs.Common.{rules, ◌∷◌}
+use Rattle.std.specs.Int.{w64, from_le_bytes, to_le_bytes}
 use Rattle.slices.specs.Bytes.{Bytes}
 use Rattle.slices.proofs.Sets.{Outside, get_d-sets-out}
-use Rattle.words.specs.Words.{le, le_at, word_at, set_word, quad_at, set_quad}
+use Rattle.words.specs.Words.{le, le_at, number_at, set_number, word_at, set_word, quad_at, set_quad}
 
 -- ---- any width
 
@@ -18,15 +20,33 @@ unfolding le
 length-le zero x = refl
 length-le (suc n) x = ap suc (length-le n (x / 256))
 
+-- Bytes that are all 0.
+pub le-zero : (n : ℕ) (s : Bytes) (b : ℕ) → ((k : ℕ) → k < n → get_or s (b + k) 0 ≡ 0) → le_at n s b ≡ 0
+unfolding le_at
+le-zero zero s b at = refl
+le-zero (suc n) s b at =
+    let e : get_or s b 0 ≡ 0 = simp add-zero at (at 0 (omega arith)) in
+    let ih : le_at n s (suc b) ≡ 0 =
+    le-zero n s (suc b) (λ k h. let p : suc b + k ≡ b + suc k = omega arith in rw p (at (suc k) (omega arith))) in
+    omega arith
+
+-- If n bytes agree, and the bytes after them up to the mth are 0, the m bytes hold the number of the n.
+pub le-short : (n m : ℕ) (s t : Bytes) (b c : ℕ) → n ≤ m → ((k : ℕ) → k < n → get_or s (b + k) 0 ≡ get_or t (c + k) 0)
+    → ((k : ℕ) → n ≤ k → k < m → get_or s (b + k) 0 ≡ 0) → le_at m s b ≡ le_at n t c
+unfolding le_at
+le-short zero m s t b c f at z = le-zero m s b (λ k h. z k (omega arith) h)
+le-short (suc n) zero s t b c f at z = absurd (omega arith)
+le-short (suc n) (suc m) s t b c f at z =
+    let e : get_or s b 0 ≡ get_or t c 0 = simp add-zero at (at 0 (omega arith)) in
+    let ih : le_at m s (suc b) ≡ le_at n t (suc c) =
+    le-short n m s t (suc b) (suc c) (omega arith)
+    (λ k h. let p : suc b + k ≡ b + suc k = omega arith in let q : suc c + k ≡ c + suc k = omega arith in rw (p, q) (at (suc k) (omega arith)))
+    (λ k g h. let p : suc b + k ≡ b + suc k = omega arith in rw p (z (suc k) (omega arith) (omega arith))) in
+    cc
+
 -- Two places whose n bytes agree hold the same number.
 pub le-agree : (n : ℕ) (s t : Bytes) (b c : ℕ) → ((k : ℕ) → k < n → get_or s (b + k) 0 ≡ get_or t (c + k) 0) → le_at n s b ≡ le_at n t c
-unfolding le_at
-le-agree zero s t b c at = refl
-le-agree (suc n) s t b c at =
-    let e : get_or s b 0 ≡ get_or t c 0 = simp add-zero at (at 0 (omega arith)) in
-    let ih : le_at n s (suc b) ≡ le_at n t (suc c) =
-    le-agree n s t (suc b) (suc c) (λ k h. let p : suc b + k ≡ b + suc k = omega arith in let q : suc c + k ≡ c + suc k = omega arith in rw (p, q) (at (suc k) (omega arith))) in
-    cc
+le-agree n s t b c at = le-short n n s t b c (omega arith) at (λ k g h. absurd (omega arith))
 
 -- And the other way round: one number, the same bytes.
 pub le_same : (n : ℕ) (s t : Bytes) (b c : ℕ) → ((k : ℕ) → get_or s k 0 < 256) → ((k : ℕ) → get_or t k 0 < 256)
@@ -44,16 +64,6 @@ le_same (suc n) s t b c hs ht e (suc k) l =
     let u : b + suc k ≡ suc b + k = omega arith in
     let v : c + suc k ≡ suc c + k = omega arith in
     rw (u, v) (le_same n s t (suc b) (suc c) hs ht f k (omega arith))
-
--- Bytes that are all 0.
-pub le-zero : (n : ℕ) (s : Bytes) (b : ℕ) → ((k : ℕ) → k < n → get_or s (b + k) 0 ≡ 0) → le_at n s b ≡ 0
-unfolding le_at
-le-zero zero s b at = refl
-le-zero (suc n) s b at =
-    let e : get_or s b 0 ≡ 0 = simp add-zero at (at 0 (omega arith)) in
-    let ih : le_at n s (suc b) ≡ 0 =
-    le-zero n s (suc b) (λ k h. let p : suc b + k ≡ b + suc k = omega arith in rw p (at (suc k) (omega arith))) in
-    omega arith
 
 high : (n x : ℕ) → x < 256 ^ suc n → x / 256 < 256 ^ n
 high n x h =
@@ -88,74 +98,78 @@ le-lt (suc m) s b h =
     let ih : le_at m s (suc b) < q = le-lt m s (suc b) h in
     rw p (omega arith)
 
+pub length-set_number : (n : ℕ) (s : Bytes) (i x : ℕ) → length (set_number n s i x) ≡ length s
+unfolding set_number
+length-set_number n s i x = length-sets s (n * i) (le n x)
+
+-- A byte outside the n.
+pub get_d-set_number : (n : ℕ) (s : Bytes) (i x k : ℕ) → Outside (n * i) n k → get_or (set_number n s i x) k 0 ≡ get_or s k 0
+unfolding set_number
+get_d-set_number n s i x k o =
+    get_d-sets-out (le n x) s (n * i) k (λ d g. o d (let p : length (le n x) ≡ n = length-le n x in omega arith))
+
 -- ---- words
 
 pub length-set_word : (s : Bytes) (i x : ℕ) → length (set_word s i x) ≡ length s
-unfolding set_word
-length-set_word s i x = length-sets s (8 * i) (le 8 x)
+length-set_word s i x = length-set_number 8 s i x
 
 -- A byte outside the eight.
 pub get_d-set_word : (s : Bytes) (i x k : ℕ) → Outside (8 * i) 8 k → get_or (set_word s i x) k 0 ≡ get_or s k 0
-unfolding set_word
-get_d-set_word s i x k o =
-    get_d-sets-out (le 8 x) s (8 * i) k (λ d g. o d (let p : length (le 8 x) ≡ 8 = length-le 8 x in omega arith))
+get_d-set_word s i x k o = get_d-set_number 8 s i x k o
 
 pub word-set-same : (s : Bytes) (i x : ℕ) → 8 * i + 8 ≤ length s → x < 2 ^ 64 → word_at (set_word s i x) i ≡ x
-unfolding word_at set_word
+unfolding number_at set_number
 word-set-same s i x f h = le-put-same 8 s (8 * i) x f h
 
 pub word-set-other : (s : Bytes) (i j x : ℕ) → j ≢ i → word_at (set_word s i x) j ≡ word_at s j
-unfolding word_at set_word
+unfolding number_at set_number
 word-set-other s i j x o = le-put-other 8 8 s (8 * i) (8 * j) x (λ k h d g. omega arith)
 
 -- A word whose bytes agree in two lists.
 pub word-agree : (s t : Bytes) (i : ℕ) → ((k : ℕ) → k < 8 → get_or s (8 * i + k) 0 ≡ get_or t (8 * i + k) 0) → word_at s i ≡ word_at t i
-unfolding word_at
+unfolding number_at
 word-agree s t i at = le-agree 8 s t (8 * i) (8 * i) at
 
 pub word-zero : (s : Bytes) (i : ℕ) → ((k : ℕ) → k < 8 → get_or s (8 * i + k) 0 ≡ 0) → word_at s i ≡ 0
-unfolding word_at
+unfolding number_at
 word-zero s i at = le-zero 8 s (8 * i) at
 
 -- ---- quads
 
 pub length-set_quad : (s : Bytes) (i x : ℕ) → length (set_quad s i x) ≡ length s
-unfolding set_quad
-length-set_quad s i x = length-sets s (4 * i) (le 4 x)
+length-set_quad s i x = length-set_number 4 s i x
 
 -- A byte outside the four.
 pub get_d-set_quad : (s : Bytes) (i x k : ℕ) → Outside (4 * i) 4 k → get_or (set_quad s i x) k 0 ≡ get_or s k 0
-unfolding set_quad
-get_d-set_quad s i x k o =
-    get_d-sets-out (le 4 x) s (4 * i) k (λ d g. o d (let p : length (le 4 x) ≡ 4 = length-le 4 x in omega arith))
+get_d-set_quad s i x k o = get_d-set_number 4 s i x k o
 
 pub quad-set-same : (s : Bytes) (i x : ℕ) → 4 * i + 4 ≤ length s → x < 2 ^ 32 → quad_at (set_quad s i x) i ≡ x
-unfolding quad_at set_quad
+unfolding number_at set_number
 quad-set-same s i x f h = le-put-same 4 s (4 * i) x f h
 
 pub quad-set-other : (s : Bytes) (i j x : ℕ) → j ≢ i → quad_at (set_quad s i x) j ≡ quad_at s j
-unfolding quad_at set_quad
+unfolding number_at set_number
 quad-set-other s i j x o = le-put-other 4 4 s (4 * i) (4 * j) x (λ k h d g. omega arith)
 
 pub quad-agree : (s t : Bytes) (i : ℕ) → ((k : ℕ) → k < 4 → get_or s (4 * i + k) 0 ≡ get_or t (4 * i + k) 0) → quad_at s i ≡ quad_at t i
-unfolding quad_at
+unfolding number_at
 quad-agree s t i at = le-agree 4 s t (4 * i) (4 * i) at
 
 pub quad-zero : (s : Bytes) (i : ℕ) → ((k : ℕ) → k < 4 → get_or s (4 * i + k) 0 ≡ 0) → quad_at s i ≡ 0
-unfolding quad_at
+unfolding number_at
 quad-zero s i at = le-zero 4 s (4 * i) at
 
 -- ---- words beside quads: one memory holds both, apart from one another
 
 pub word-set-quad : (s : Bytes) (i j x : ℕ) → ((k : ℕ) → k < 8 → Outside (4 * j) 4 (8 * i + k)) → word_at (set_quad s j x) i ≡ word_at s i
-unfolding word_at set_quad
+unfolding number_at set_number
 word-set-quad s i j x o = le-put-other 8 4 s (4 * j) (8 * i) x o
 
 pub quad-set-word : (s : Bytes) (i j x : ℕ) → ((k : ℕ) → k < 4 → Outside (8 * j) 8 (4 * i + k)) → quad_at (set_word s j x) i ≡ quad_at s i
-unfolding quad_at set_word
+unfolding number_at set_number
 quad-set-word s i j x o = le-put-other 4 8 s (8 * j) (4 * i) x o
 
--- ---- the sums of bytes that the code computes
+-- ---- the sums of bytes
 
 pub eight-bytes : (s : Bytes) (b : ℕ)
     → le_at 8 s b ≡ get_or s b 0 + get_or s (b + 1) 0 * 256 + get_or s (b + 2) 0 * 65536 + get_or s (b + 3) 0 * 16777216
@@ -170,3 +184,19 @@ pub four_bytes : (s : Bytes) (b : ℕ)
     → le_at 4 s b ≡ get_or s b 0 + get_or s (b + 1) 0 * 256 + get_or s (b + 2) 0 * 65536 + get_or s (b + 3) 0 * 16777216
 unfolding le_at
 four_bytes s b = simp towards_suc (omega arith)
+
+-- ---- the eight bytes that std reads and writes
+
+pub read-eight : (s : Bytes) → from_le_bytes w64 s ≡ le_at 8 s 0
+read-eight s = omega (arith, eight-bytes s 0)
+
+pub written-eight : (x : ℕ) → to_le_bytes w64 x ≡ le 8 x
+unfolding le
+written-eight x = search (arith, rules)
+
+-- The low n bytes of a number begin its bytes.
+pub take-le : (n m x : ℕ) → n ≤ m → take n (le m x) ≡ le n x
+unfolding le
+take-le zero m x h = refl
+take-le (suc n) zero x h = absurd (omega arith)
+take-le (suc n) (suc m) x h = ap (λ (r : Bytes). x % 256 ∷ r) (take-le n m (x / 256) (omega arith))

@@ -1,86 +1,46 @@
-// Little-endian numbers in a slice of bytes. A word has eight bytes, a quad four. An index counts words or quads; `word_from` reads from any byte on.
-// Each read below compiles to one load, each write to one store.
+// Little-endian numbers in a slice of bytes, each N bytes wide: a word has eight bytes, a quad four. An index counts numbers of that width; `number_from` reads from any byte on.
+// At the width of a word and of a quad, each read below compiles to one load, and each write to one store.
 #![tactic(auto)]
 
-ghost use Rattle.std.specs.Prelude.{◌≡◌, ◌+◌, ◌*◌, ◌≤◌, ◌<◌, length};
-ghost use Rattle.words.specs.Words.{le_at, word_at, set_word, quad_at, set_quad};
+ghost use Rattle.std.specs.Prelude.{◌≡◌, ◌+◌, ◌*◌, ◌≤◌, length};
+ghost use Rattle.words.specs.Words.{le_at, number_at, set_number};
+
+// The bytes of a word.
+pub const WORD: usize = 8;
+
+// The bytes of a quad.
+pub const QUAD: usize = 4;
 
 // The top bit of each byte of a word.
 pub const TOP_BITS: usize = 0x8080808080808080;
 
-// A byte as a number.
-pub fn wide(x: u8) -> usize
-    ensures { (result ≡ x) × (result < 256) }
+// The number whose N bytes begin at b.
+pub fn number_from<const N: usize>(s: &[u8], b: usize) -> usize
+    requires width { N ≤ 8 }
+    requires within { b + N ≤ length s.now }
+    ensures { result ≡ le_at N s.now b }
 {
-    x as usize
+    let mut bytes = [0; WORD];
+    bytes[..N].copy_from_slice(&s[b..b + N]);
+    usize::from_le_bytes(bytes)
 }
 
-// The word whose bytes begin at b.
-pub fn word_from(s: &[u8], b: usize) -> usize
-    requires { b + 8 ≤ length s.now }
-    ensures { result ≡ le_at 8 s.now b }
+// The number at index i.
+pub fn number_at<const N: usize>(s: &[u8], i: usize) -> usize
+    requires width { N ≤ 8 }
+    requires within { N * i + N ≤ length s.now }
+    ensures { result ≡ number_at N s.now i }
 {
-    wide(s[b])
-        + wide(s[b + 1]) * 256
-        + wide(s[b + 2]) * 65536
-        + wide(s[b + 3]) * 16777216
-        + wide(s[b + 4]) * 4294967296
-        + wide(s[b + 5]) * 1099511627776
-        + wide(s[b + 6]) * 281474976710656
-        + wide(s[b + 7]) * 72057594037927936
+    number_from::<N>(s, N * i)
 }
 
-// The word at index i.
-pub fn word_at(s: &[u8], i: usize) -> usize
-    requires { 8 * i + 8 ≤ length s.now }
-    ensures { result ≡ word_at s.now i }
+// Puts the low N bytes of x at index i.
+pub fn put_number<const N: usize>(s: &mut [u8], i: usize, x: usize)
+    requires width { N ≤ 8 }
+    requires within { N * i + N ≤ length s.old }
+    ensures { s.new ≡ set_number N s.old i x }
 {
-    word_from(s, 8 * i)
-}
-
-// Puts x at word index i.
-pub fn put_word(s: &mut [u8], i: usize, x: usize)
-    requires { 8 * i + 8 ≤ length s.old }
-    ensures { s.new ≡ set_word s.old i x }
-{
-    let b = 8 * i;
-    let x1 = x / 256;
-    let x2 = x1 / 256;
-    let x3 = x2 / 256;
-    let x4 = x3 / 256;
-    let x5 = x4 / 256;
-    let x6 = x5 / 256;
-    let x7 = x6 / 256;
-    s[b] = (x % 256) as u8;
-    s[b + 1] = (x1 % 256) as u8;
-    s[b + 2] = (x2 % 256) as u8;
-    s[b + 3] = (x3 % 256) as u8;
-    s[b + 4] = (x4 % 256) as u8;
-    s[b + 5] = (x5 % 256) as u8;
-    s[b + 6] = (x6 % 256) as u8;
-    s[b + 7] = (x7 % 256) as u8;
-}
-
-// The quad at index i.
-pub fn quad_at(s: &[u8], i: usize) -> usize
-    requires { 4 * i + 4 ≤ length s.now }
-    ensures { result ≡ quad_at s.now i }
-{
-    let b = 4 * i;
-    wide(s[b]) + wide(s[b + 1]) * 256 + wide(s[b + 2]) * 65536 + wide(s[b + 3]) * 16777216
-}
-
-// Puts the low 32 bits of x at quad index i.
-pub fn put_quad(s: &mut [u8], i: usize, x: usize)
-    requires { 4 * i + 4 ≤ length s.old }
-    ensures { s.new ≡ set_quad s.old i x }
-{
-    let b = 4 * i;
-    let x1 = x / 256;
-    let x2 = x1 / 256;
-    let x3 = x2 / 256;
-    s[b] = (x % 256) as u8;
-    s[b + 1] = (x1 % 256) as u8;
-    s[b + 2] = (x2 % 256) as u8;
-    s[b + 3] = (x3 % 256) as u8;
+    let b = N * i;
+    let bytes = x.to_le_bytes();
+    s[b..b + N].copy_from_slice(&bytes[..N]);
 }

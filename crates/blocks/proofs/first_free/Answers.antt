@@ -1,21 +1,18 @@
--- The words read lie in lists. A word that is 0 ends the search where it stands, and any other leaves it to the blocks behind.
-use Rattle.std.proofs.Common.{sym, ap, ◌∙◌, arith}
-use Rattle.blocks.specs.Answers.{allocated}
-use Rattle.blocks.proofs.Search.{search-here, search-on}
+-- Each word that the search asks for lies in lists, and the answer is the first that is 0.
+use Rattle.std.proofs.Common.{◌≡◌, ◌≢◌, ◌+◌, rules, tests, arith}
+use Rattle.std.proofs.lemmas.Iterator.{first_from_Range, serves_from_Range}
+use Rattle.words.specs.Words.{word_at}
+use Rattle.blocks.proofs.Search.{first-found}
 use Rattle.blocks.proofs.Tables.{global-inside}
 use Rattle.blocks.proofs.first_free.Goals as goal
 
-pub overflow_add-at : goal.overflow_add-at
-overflow_add-at c = omega (arith, global-inside c.args.s c.loop-g.g _ _ c.requires.1 c.loop-g-test.true c.blocks_at-at.ensures)
+pub find-requires-clause-callable : goal.find-requires-clause-callable
+find-requires-clause-callable c =
+    serves_from_Range (λ x q k. search (rules, tests)) (λ x low high. let w = global-inside c.args.s x _ _ c.requires.1 high c.blocks_at-at.ensures in grind (arith, tests))
 
-pub word_at-requires : goal.word_at-requires
-word_at-requires c = global-inside c.args.s c.loop-g.g _ _ c.requires.1 c.loop-g-test.true c.blocks_at-at.ensures
-
-pub returns-then-word_at-eq0 : goal.returns-then-word_at-eq0
-returns-then-word_at-eq0 c =
-    let f = search-here c.args.lists.now c.blocks_at-at.result c.args.s.b c.loop-g.g c.loop-g-test.true (sym c.word_at.ensures ∙ c.if-word_at-eq0.true) in
-    rw (← c.blocks_at-at.ensures) (ap allocated (sym (c.loop-g.invariant ∙ f)))
-
-pub loop-g-preserved : goal.loop-g-preserved
-loop-g-preserved c =
-    c.loop-g.invariant ∙ search-on c.args.lists.now c.blocks_at-at.result c.args.s.b c.loop-g.g c.loop-g-test.true (λ e. c.if-word_at-eq0.false (c.word_at.ensures ∙ e))
+pub returns : goal.returns
+returns c =
+    let l = c.args.lists.now in
+    let at = c.blocks_at-at.result in
+    rw (← c.blocks_at-at.ensures) (first-found l at _ _ _
+    (first_from_Range _ _ _ _ (λ g. word_at l (at + g) ≡ 0) (λ g. word_at l (at + g) ≢ 0) c.find.ensures.ran (λ x q k. grind (arith, tests)) (λ x q k. (search rules, grind (arith, tests)))))

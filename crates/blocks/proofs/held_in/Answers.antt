@@ -9,16 +9,16 @@ overflow_add-blocks_at c =
     let r = c.requires in
     omega (arith, local-inside c.args.s c.args.k c.args.l _ _ r.1 r.2 r.3 c.blocks_at.ensures)
 
-pub word_at-x-requires : goal.word_at-x-requires
-word_at-x-requires c =
+pub number_at-x-requires-clause-within : goal.number_at-x-requires-clause-within
+number_at-x-requires-clause-within c =
     let r = c.requires in
     local-inside c.args.s c.args.k c.args.l _ _ r.1 r.2 r.3 c.blocks_at.ensures
 
 pub returns-then-x-eq0 : goal.returns-then-x-eq0
-returns-then-x-eq0 c = rw (← c.blocks_at.ensures, ← c.word_at-x.ensures) (sym (held_none _ _ c.if-x-eq0.true))
+returns-then-x-eq0 c = rw (← c.blocks_at.ensures, ← c.number_at-x.ensures) (sym (held_none _ _ c.if-x-eq0.true))
 
 pub returns-then-s-x : goal.returns-then-s-x
-returns-then-s-x c = rw (← c.blocks_at.ensures, ← c.word_at-x.ensures) (sym (held-past _ _ c.if-s-x.true))
+returns-then-s-x c = rw (← c.blocks_at.ensures, ← c.number_at-x.ensures) (sym (held-past _ _ c.if-s-x.true))
 
 pub returns : goal.returns
-returns c = rw (← c.blocks_at.ensures, ← c.word_at-x.ensures) (sym (held-there _ _ c.if-x-eq0.false c.if-s-x.false))
+returns c = rw (← c.blocks_at.ensures, ← c.number_at-x.ensures) (sym (held-there _ _ c.if-x-eq0.false c.if-s-x.false))

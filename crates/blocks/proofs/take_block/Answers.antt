@@ -10,8 +10,8 @@ overflow_add-blocks_at c =
     let l : c.args.local.0 / c.block_size.result < c.args.s.b = rw c.block_size.ensures.0 r.3 in
     omega (arith, local-inside c.args.s c.args.k _ _ _ r.1 r.2 l c.blocks_at.ensures)
 
-pub put_word-requires : goal.put_word-requires
-put_word-requires c =
+pub put_number-requires-clause-within : goal.put_number-requires-clause-within
+put_number-requires-clause-within c =
     let r = c.requires in
     let l : c.args.local.0 / c.block_size.result < c.args.s.b = rw c.block_size.ensures.0 r.3 in
     local-inside c.args.s c.args.k _ _ _ r.1 r.2 l c.blocks_at.ensures
@@ -21,8 +21,8 @@ overflow_add-blocks_at-2 c =
     let r = c.requires in
     omega (arith, global-inside c.args.s c.args.g _ _ r.1 r.4 c.blocks_at-2.ensures)
 
-pub put_word-requires-2 : goal.put_word-requires-2
-put_word-requires-2 c =
+pub put_number-requires-2-clause-within : goal.put_number-requires-2-clause-within
+put_number-requires-2-clause-within c =
     let r = c.requires in
     omega (arith, global-inside c.args.s c.args.g _ _ r.1 r.4 c.blocks_at-2.ensures)
 
@@ -30,4 +30,4 @@ pub returns : goal.returns
 returns c =
     let a = c.args in
     written_is a.s a.lists.now a.k a.local.0 a.g c.block_size.result
-    c.block_size.ensures.0 c.blocks_at.ensures c.blocks_at-2.ensures c.put_word.ensures c.put_word-2.ensures
+    c.block_size.ensures.0 c.blocks_at.ensures c.blocks_at-2.ensures c.put_number.ensures c.put_number-2.ensures

@@ -1,31 +1,37 @@
 -- Each answer, from what was read.
-use Rattle.std.proofs.Common.{sym, arith}
+use Rattle.std.proofs.Common.{sym, ap, ◌∙◌, arith}
+use Rattle.std.specs.Prelude.{Err}
+use Rattle.std.proofs.lemmas.Result.{err_from_is_err_and}
 use Rattle.bytes_dictionary.proofs.Reading.{counted-by, uncounted}
 use Rattle.bytes_dictionary.proofs.Looked.{looked-uncounted, looked-nothing, looked-at, looked-foreign}
 use Rattle.bytes_dictionary.proofs.look_up.Goals as goal
 
-pub returns-in_default : goal.returns-in_default
-returns-in_default c = looked-uncounted _ _ _ _ c.requires.2 (uncounted _ _ (sym c.in_default.ensures))
+pub returns-in_err-n : goal.returns-in_err-n
+returns-in_err-n c =
+    let f = err_from_is_err_and c.from_residual.result c.from_residual.ensures.1 in
+    let u = uncounted _ _ _ (sym c.in_err-n.ensures) in
+    looked-uncounted _ _ _ _ c.requires.2 _ (f.1 ∙ ap Err (f.2 ∙ u.0)) u.1
 
 pub returns-then-n-i : goal.returns-then-n-i
 returns-then-n-i c =
-    let k = counted-by _ _ _ (sym c.in-Entries.ensures) in
+    let k = counted-by _ _ _ (sym c.in_ok-n.ensures) in
     looked-nothing _ _ _ _ c.requires.2 (omega (arith, k, c.if-n-i.true))
 
 pub entry-requires : goal.entry-requires
 entry-requires c =
-    let k = counted-by _ _ _ (sym c.in-Entries.ensures) in
+    let k = counted-by _ _ _ (sym c.in_ok-n.ensures) in
     let r = c.requires in
     (r.0, r.1, r.2, omega (arith, k, c.if-n-i.false))
 
-pub returns-in_default-entry : goal.returns-in_default-entry
-returns-in_default-entry c =
-    let k = counted-by _ _ _ (sym c.in-Entries.ensures) in
+pub returns-in_err-span : goal.returns-in_err-span
+returns-in_err-span c =
+    let k = counted-by _ _ _ (sym c.in_ok-n.ensures) in
     let a = c.args in
-    looked-foreign a.s a.d a.id.0 a.lists.now c.requires.2 (omega (arith, k, c.if-n-i.false)) c.in_default-entry.ensures
+    let f = err_from_is_err_and c.from_residual-in_err-span.result c.from_residual-in_err-span.ensures.1 in
+    looked-foreign a.s a.d a.id.0 a.lists.now c.requires.2 (omega (arith, k, c.if-n-i.false)) _ _ (f.1 ∙ ap Err f.2) c.in_err-span.ensures
 
 pub returns : goal.returns
 returns c =
-    let k = counted-by _ _ _ (sym c.in-Entries.ensures) in
+    let k = counted-by _ _ _ (sym c.in_ok-n.ensures) in
     let a = c.args in
-    looked-at a.s a.d a.id.0 a.lists.now c.requires.2 (omega (arith, k, c.if-n-i.false)) _ _ c.in-At.ensures
+    looked-at a.s a.d a.id.0 a.lists.now c.requires.2 (omega (arith, k, c.if-n-i.false)) _ c.in_ok-span.ensures

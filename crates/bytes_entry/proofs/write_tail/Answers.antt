@@ -6,4 +6,7 @@ use Rattle.bytes_entry.proofs.write_tail.Goals as goal
 pub returns : goal.returns
 returns c =
     let a = c.args in
-    rw c.write-2.ensures (put-tail a.tail.now _ (bytes_of a.key.front a.front.now) (bytes_of a.key.rest a.rest.now) _ c.write.ensures c.measure-m.ensures c.requires)
+    let p = c.parts.ensures in
+    rw (c.write-2.ensures, p.rest)
+    (put-tail a.tail.now _ (bytes_of a.key.front a.front.now) (bytes_of a.key.rest a.rest.now) _
+    (rw p.front at c.write.ensures) (rw p.front at c.measure-m.ensures) c.requires)

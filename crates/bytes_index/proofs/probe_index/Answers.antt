@@ -1,6 +1,8 @@
 -- What was read of a place tells whether it is passed, and each return is an answer of the search.
+use Rattle.std.specs.Prelude.{Result, Ok, Err}
+use Rattle.std.proofs.lemmas.Result.{err_from_is_err_and}
 use Rattle.std.proofs.Common.{ℕ, ◌+◌, ◌-◌, ◌*◌, ◌%◌, ◌≤◌, ◌<◌, ◌≡◌, refl, sym, ◌∙◌, ap, subst, length, get_or, arith}
-use borrow.Author.Count.{below_more}
+use borrow.Author.Count.{below_none, below_more}
 use native.Mathlib.Nat.{mod-lt}
 use Rattle.slices.specs.Bytes.{Bytes}
 use Rattle.words.specs.Words.{word_at, quad_at}
@@ -8,9 +10,11 @@ use Rattle.fnv.specs.Fnv.{fnv_of}
 use Rattle.layout.specs.declared.Sizes.{Sizes}
 use Rattle.layout.specs.Sizes.{page_size}
 use Rattle.layout.specs.Fields.{entry_at, place_at, dict_at, page_of, offset_of, size_of, named_by, top_of}
-use Rattle.layout.proofs.Places.{dict-within, list-bytes}
-use Rattle.bytes_index.specs.declared.Span.TheVariants.{At, Bad}
-use Rattle.bytes_index.specs.Entries.{Addresses, Met, FreeAt}
+use Rattle.refusals.specs.declared.Refusal.{Refusal}
+use Rattle.refusals.specs.declared.Refusal.TheVariants.{Unopened}
+use Rattle.bytes_index.specs.declared.Probe.{Probe}
+use Rattle.bytes_index.specs.Search.{HoldsEntries, Searched}
+use Rattle.bytes_index.specs.Entries.{Entries, Addresses, Met, FreeAt}
 use Rattle.bytes_index.specs.Field.{entry_field}
 use Rattle.bytes_key.specs.Keys.{bytes_in}
 use Rattle.bytes_key.proofs.Fronts.{front-sized}
@@ -18,7 +22,7 @@ use Rattle.bytes_index.proofs.Place.{place-zero, place-next}
 use Rattle.bytes_index.proofs.Index.{place-passed, meets, hit, never-nothing, never-past, never-out, never-full, missed}
 use Rattle.bytes_index.proofs.Stored.{field_in, not-front, not-all, all-bytes}
 use Rattle.bytes_index.proofs.probe_index.Goals as goal
-use Rattle.bytes_index.proofs.probe_index.Goals.{then-q-top+else-w-eq0+else-e-w+in-At+then-front_is+else-left-eq0+then-agreed-eq0, then-q-top+else-w-eq0+else-e-w+in-At+else-front_is, else-q-top}
+use Rattle.bytes_index.proofs.probe_index.Goals.{then-q-top+else-w-eq0+else-e-w+in_ok-span+then-front_is+else-left-eq0+then-agreed-eq0, then-q-top+else-w-eq0+else-e-w+in_ok-span+else-front_is, else-q-top}
 
 -- The memory as functions.
 abbrev B : Bytes → ℕ → ℕ
@@ -34,18 +38,17 @@ Q lists s d j = quad_at lists (place_at s d j)
 quad : (lists : Bytes) (s : Sizes) (d j base q : ℕ) → base ≡ dict_at s d → q ≡ quad_at lists (2 * (base + 2 * s.e) + j) → q ≡ Q lists s d j
 quad lists s d j base q e p = p ∙ ap (λ (x : ℕ). quad_at lists (2 * (x + 2 * s.e) + j)) e
 
--- An entry that lies in one page is not Bad.
-never-bad : (s : Sizes) (v : ℕ) → page_of v < s.n → offset_of v + size_of v ≤ page_size s → entry_field s v ≡ Bad → ⊥
-never-bad s v p q f =
-    let g : entry_field s v ≡ At _ _ = field_in s v p q in
+-- An entry that lies in one page is not refused.
+never-bad : (s : Sizes) (v : ℕ) (why : Refusal) → page_of v < s.n → offset_of v + size_of v ≤ page_size s → entry_field s v ≡ Err why → ⊥
+never-bad s v why p q f =
+    let g : entry_field s v ≡ Ok _ = field_in s v p q in
     let z : ◌≡◌ {A = ℕ} 0 1 = cc in
     omega arith
 
-pub overflow_add-places : goal.overflow_add-places
-overflow_add-places c = omega (arith, dict-within c.args.s c.args.key.d c.requires.0.known)
-
-pub overflow_mul-places : goal.overflow_mul-places
-overflow_mul-places c = omega (arith, dict-within c.args.s c.args.key.d c.requires.0.known)
+-- A search that refuses, in memory that holds no entries.
+refused : (s : Sizes) (d : ℕ) (pages lists key : Bytes) (r : Result Probe Refusal) (why : Refusal) → r ≡ Err why → why ≡ Unopened
+    → ((es : Entries) → HoldsEntries s d pages lists es → ⊥) → Searched s d pages lists key r
+refused s d pages lists key r why e u n = rw e record { range = u; went = tt; right = n }
 
 pub probe-init : goal.probe-init
 probe-init c =
@@ -57,33 +60,24 @@ probe-init c =
       steps = omega arith;
       place = rw e (mod-lt h (omega (arith, c.requires.0.ranged.e)));
       here = place-zero m h ∙ sym e;
-      passed = λ k l. absurd (omega arith);
+      passed = below_none _;
     }
 
 pub returns-then-t-m : goal.returns-then-t-m
 returns-then-t-m c =
     let a = c.args in
     let e = c.requires.0.ranged.e in
-    record {
-      range = tt;
-      went = tt;
-      right = λ es H.
-          never-full a.s (B a.pages.now) (W a.lists.now a.s a.key.d) (Q a.lists.now a.s a.key.d) es H e.1 e.0 _
-          (λ k l. (c.probe.invariant.passed k (omega arith)).0);
-    }
-
-pub overflow_add-places-in-probe : goal.overflow_add-places-in-probe
-overflow_add-places-in-probe c = omega (arith, dict-within c.args.s c.args.key.d c.requires.0.known)
-
-pub quad_at-q-requires : goal.quad_at-q-requires
-quad_at-q-requires c = omega (arith, dict-within c.args.s c.args.key.d c.requires.0.known, list-bytes c.args.s, c.requires.0.lists-fit)
+    refused a.s a.key.d _ _ _ _ _ refl refl
+    (λ es H.
+    never-full a.s (B a.pages.now) (W a.lists.now a.s a.key.d) (Q a.lists.now a.s a.key.d) es H e.1 e.0 _
+    (λ k l. (c.probe.invariant.passed k (omega arith)).0))
 
 pub returns-then-q-eq0 : goal.returns-then-q-eq0
 returns-then-q-eq0 c =
     let a = c.args in
     let p = c.probe.invariant in
     let q = Q a.lists.now a.s a.key.d in
-    let r = quad _ a.s a.key.d c.probe.j _ _ c.dict_at.ensures c.quad_at-q.ensures in
+    let r = quad _ a.s a.key.d c.probe.j _ _ c.dict_at.ensures c.number_at-q.ensures in
     let f : FreeAt q (2 * a.s.e) (fnv_of (bytes_in a.key a.front.now a.rest.now)) c.probe.j =
     record { step = c.probe.t; near = omega arith; here = p.here; empty = sym r ∙ c.if-q-eq0.true; full = λ k l. (p.passed k l).0 } in
     record {
@@ -95,65 +89,58 @@ returns-then-q-eq0 c =
 pub returns-then-w-eq0 : goal.returns-then-w-eq0
 returns-then-w-eq0 c =
     let a = c.args in
-    let r = quad _ a.s a.key.d c.probe.j _ _ c.dict_at.ensures c.quad_at-q.ensures in
-    record {
-      range = tt;
-      went = tt;
-      right = λ es H.
-          never-nothing a.s (B a.pages.now) (W a.lists.now a.s a.key.d) (Q a.lists.now a.s a.key.d) es H c.requires.0.ranged.e.1
-          c.probe.j c.probe.invariant.place (λ y. c.if-q-eq0.false (r ∙ y)) (ap named_by (sym r) ∙ c.if-w-eq0.true);
-    }
+    let r = quad _ a.s a.key.d c.probe.j _ _ c.dict_at.ensures c.number_at-q.ensures in
+    refused a.s a.key.d _ _ _ _ _ refl refl
+    (λ es H.
+    never-nothing a.s (B a.pages.now) (W a.lists.now a.s a.key.d) (Q a.lists.now a.s a.key.d) es H c.requires.0.ranged.e.1
+    c.probe.j c.probe.invariant.place (λ y. c.if-q-eq0.false (r ∙ y)) (ap named_by (sym r) ∙ c.if-w-eq0.true))
 
 pub returns-then-e-w : goal.returns-then-e-w
 returns-then-e-w c =
     let a = c.args in
-    let r = quad _ a.s a.key.d c.probe.j _ _ c.dict_at.ensures c.quad_at-q.ensures in
-    record {
-      range = tt;
-      went = tt;
-      right = λ es H.
-          never-past a.s (B a.pages.now) (W a.lists.now a.s a.key.d) (Q a.lists.now a.s a.key.d) es H c.requires.0.ranged.e.1
-          c.probe.j c.probe.invariant.place (λ y. c.if-q-eq0.false (r ∙ y)) (subst (λ (x : ℕ). a.s.e < named_by x) r c.if-e-w.true);
-    }
+    let r = quad _ a.s a.key.d c.probe.j _ _ c.dict_at.ensures c.number_at-q.ensures in
+    refused a.s a.key.d _ _ _ _ _ refl refl
+    (λ es H.
+    never-past a.s (B a.pages.now) (W a.lists.now a.s a.key.d) (Q a.lists.now a.s a.key.d) es H c.requires.0.ranged.e.1
+    c.probe.j c.probe.invariant.place (λ y. c.if-q-eq0.false (r ∙ y)) (subst (λ (x : ℕ). a.s.e < named_by x) r c.if-e-w.true))
 
-pub returns-in_default : goal.returns-in_default
-returns-in_default c =
+pub returns-in_err-span : goal.returns-in_err-span
+returns-in_err-span c =
     let a = c.args in
     let w = W a.lists.now a.s a.key.d in
-    let r = quad _ a.s a.key.d c.probe.j _ _ c.dict_at.ensures c.quad_at-q.ensures in
-    record {
-      range = tt;
-      went = tt;
-      right = λ es H.
-          let o =
-          never-out a.s (B a.pages.now) w (Q a.lists.now a.s a.key.d) es H c.requires.0.ranged.e.1
-          c.probe.j c.probe.invariant.place (λ y. c.if-q-eq0.false (r ∙ y)) in
-          never-bad a.s _ o.0 o.1 (ap (λ (x : ℕ). entry_field a.s (w (named_by x - 1))) (sym r) ∙ sym c.in_default.ensures.field);
-    }
+    let r = quad _ a.s a.key.d c.probe.j _ _ c.dict_at.ensures c.number_at-q.ensures in
+    let f = err_from_is_err_and c.from_residual.result c.from_residual.ensures.1 in
+    refused a.s a.key.d _ _ _ _ _ f.1 (f.2 ∙ c.in_err-span.ensures.inside)
+    (λ es H.
+    let o =
+    never-out a.s (B a.pages.now) w (Q a.lists.now a.s a.key.d) es H c.requires.0.ranged.e.1
+    c.probe.j c.probe.invariant.place (λ y. c.if-q-eq0.false (r ∙ y)) in
+    never-bad a.s _ _ o.0 o.1 (ap (λ (x : ℕ). entry_field a.s (w (named_by x - 1))) (sym r) ∙ sym c.in_err-span.ensures.field))
 
 pub agreeing_in-agreed-requires : goal.agreeing_in-agreed-requires
 agreeing_in-agreed-requires c =
-    let e : c.in-At.at + c.in-At.len ≤ length c.args.pages.now = omega (arith, c.in-At.ensures.inside, c.requires.0.pages-fit) in
+    let e : c.in_ok-span.span.at + c.in_ok-span.span.len ≤ length c.args.pages.now = omega (arith, c.in_ok-span.ensures.inside, c.requires.0.pages-fit) in
     let z = front-sized _ _ _ _ _ e (sym c.if-front_is.ensures) in
     (omega arith, c.loop-left.invariant.within, c.measure-n.ensures, omega (arith, z), e)
 
 pub probe-preserved : goal.probe-preserved
 probe-preserved c =
     let a = c.args in
+    let parts = c.parts.ensures in
     let p = c.probe.invariant in
     let key = bytes_in a.key a.front.now a.rest.now in
     let w = W a.lists.now a.s a.key.d in
-    let q = c.quad_at-q.result in
-    let r = quad _ a.s a.key.d c.probe.j _ _ c.dict_at.ensures c.quad_at-q.ensures in
+    let q = c.number_at-q.result in
+    let r = quad _ a.s a.key.d c.probe.j _ _ c.dict_at.ensures c.number_at-q.ensures in
     let top = c.top_bits-top.ensures.0 ∙ ap top_of c.requires.1.hashed in
     let n : top_of q ≡ top_of (fnv_of key) → Addresses a.s (B a.pages.now) (w (named_by q - 1)) key → ⊥ =
     elim c.if-q-top.branch [
-      | then-q-top+else-w-eq0+else-e-w+in-At+then-front_is+else-left-eq0+then-agreed-eq0 x ↦ λ e.
-          not-all _ _ _ _ _ _ _ _ refl (sym x.in-At.ensures.field) (omega (arith, x.in-At.ensures.inside, c.requires.0.pages-fit))
-          (rw c.measure-n.ensures at (sym x.if-front_is.ensures)) (x.agreeing_in-agreed.ensures.differ x.if-agreed-eq0.true)
-      | then-q-top+else-w-eq0+else-e-w+in-At+else-front_is x ↦ λ e.
-          not-front _ _ _ _ _ _ _ _ refl (sym x.in-At.ensures.field) (omega (arith, x.in-At.ensures.inside, c.requires.0.pages-fit))
-          (rw c.measure-n.ensures at (sym x.if-front_is.ensures))
+      | then-q-top+else-w-eq0+else-e-w+in_ok-span+then-front_is+else-left-eq0+then-agreed-eq0 x ↦ λ e.
+          not-all _ _ _ _ _ _ _ refl (sym x.in_ok-span.ensures.field) (omega (arith, x.in_ok-span.ensures.inside, c.requires.0.pages-fit))
+          (rw (c.measure-n.ensures, parts.front, parts.rest) at (sym x.if-front_is.ensures)) (rw parts.rest at (x.agreeing_in-agreed.ensures.differ x.if-agreed-eq0.true))
+      | then-q-top+else-w-eq0+else-e-w+in_ok-span+else-front_is x ↦ λ e.
+          not-front _ _ _ _ _ _ _ refl (sym x.in_ok-span.ensures.field) (omega (arith, x.in_ok-span.ensures.inside, c.requires.0.pages-fit))
+          (rw (c.measure-n.ensures, parts.front, parts.rest) at (sym x.if-front_is.ensures))
       | else-q-top x ↦ λ e. absurd (x.if-q-top.false (e ∙ sym top))
     ] in
     record {
@@ -167,20 +154,21 @@ probe-preserved c =
 pub returns : goal.returns
 returns c =
     let a = c.args in
+    let parts = c.parts.ensures in
     let p = c.probe.invariant in
     let key = bytes_in a.key a.front.now a.rest.now in
     let b = B a.pages.now in
     let w = W a.lists.now a.s a.key.d in
     let q = Q a.lists.now a.s a.key.d in
-    let r = quad _ a.s a.key.d c.probe.j _ _ c.dict_at.ensures c.quad_at-q.ensures in
+    let r = quad _ a.s a.key.d c.probe.j _ _ c.dict_at.ensures c.number_at-q.ensures in
     let top = c.top_bits-top.ensures.0 ∙ ap top_of c.requires.1.hashed in
-    let i = named_by c.quad_at-q.result - 1 in
-    let l : c.in-At.at + c.in-At.len ≤ length a.pages.now = omega (arith, c.in-At.ensures.inside, c.requires.0.pages-fit) in
+    let i = named_by c.number_at-q.result - 1 in
+    let l : c.in_ok-span.span.at + c.in_ok-span.span.len ≤ length a.pages.now = omega (arith, c.in_ok-span.ensures.inside, c.requires.0.pages-fit) in
     let M : Met q (2 * a.s.e) (fnv_of key) i =
-    meets a.s b w q key (2 * a.s.e) c.probe.t c.probe.j c.quad_at-q.result (omega arith) p.here r (c.if-q-top.true ∙ top) c.if-w-eq0.false p.passed in
+    meets a.s b w q key (2 * a.s.e) c.probe.t c.probe.j c.number_at-q.result (omega arith) p.here r (c.if-q-top.true ∙ top) c.if-w-eq0.false p.passed in
     let S : Addresses a.s b (w i) key =
-    all-bytes _ _ _ _ _ _ _ _ refl (sym c.in-At.ensures.field) l (rw c.measure-n.ensures at (sym c.if-front_is.ensures))
-    (λ j y u. c.loop-left.invariant.equal j (omega arith) (omega (arith, c.measure-n.ensures))) in
+    all-bytes _ _ _ _ _ _ _ refl (sym c.in_ok-span.ensures.field) l (rw (c.measure-n.ensures, parts.front, parts.rest) at (sym c.if-front_is.ensures))
+    (λ j y u. c.loop-left.invariant.equal j (omega arith) (omega (arith, rw parts.rest at c.measure-n.ensures))) in
     record {
       range = omega arith;
       went = (M, S);

@@ -1,12 +1,12 @@
 -- The key is a string behind its tag, or a rest behind the lead of its head. Assumes nothing.
-use Rattle.std.proofs.Common.{◌≡◌, ℕ, ◌≤◌, ◌<◌, true, false, [], ◌++◌, length, refl, sym, ap, subst, ◌∙◌, arith}
+use Rattle.std.proofs.Common.{◌≡◌, ℕ, ◌≤◌, ◌<◌, true, false, ◌++◌, length, refl, sym, ap, subst, ◌∙◌, arith}
 use Rattle.std.proofs.Math.Option.{none}
 use mathlib.Core.Bool.{false≢true}
 use Rattle.slices.specs.Bytes.{Bytes}
-use Rattle.fnv.specs.Fnv.{fnv_from, fnv_of}
+use Rattle.fnv.specs.Fnv.{fnv_of}
 use Rattle.parts.specs.declared.Mode.{Mode}
 use Rattle.parts.specs.declared.Mode.TheVariants.{Raw}
-use Rattle.ranked_pair_dictionary.specs.FrequentId.{fid, lead_bytes}
+use Rattle.ranked_pair_dictionary.specs.FrequentId.{fid}
 use Rattle.ranked_pair_dictionary.proofs.Laws.{length-fid, further-le}
 use Rattle.bytes_key.specs.Keys.{key_bytes}
 use Rattle.layout.specs.declared.Sizes.{Sizes}
@@ -24,11 +24,6 @@ use Rattle.search.specs.Found.{key_behind}
 use Rattle.search.proofs.Keys.{raw-key, string-key, string-paged, lead-paged, paged-fits}
 use Rattle.enter.proofs.Named.{adds-key}
 use Rattle.enter.proofs.add_str.Goals as goal
-
--- The hash of no head.
-no_head : 2166136261 ≡ fnv_of []
-unfolding fnv_of fnv_from
-no_head = refl
 
 -- ---- a string
 
@@ -69,13 +64,11 @@ enter_name-requires-clause-key c =
     let L = c.requires.lent in
     let R = L.0.ranged in
     let K = c.requires.place_ended in
-    let mode = c.front_mode.result in (
-      record {
-        hashed = K.hashed ∙ ap fnv_of (string-is a.s a.kind K.f a.first.now a.second.now mode L.1 (sym c.has_heads.ensures ∙ c.if-not-has_heads.true) c.front_mode.ensures);
-        fits = paged-fits a.s _ R (string-paged a.s mode a.second.now a.first.now R (omega (arith, (legal-shape _ _ L.1).size)));
-      },
-      no_head,
-    )
+    let mode = c.front_mode.result in
+    record {
+      hashed = K.hashed ∙ ap fnv_of (string-is a.s a.kind K.f a.first.now a.second.now mode L.1 (sym c.has_heads.ensures ∙ c.if-not-has_heads.true) c.front_mode.ensures);
+      fits = paged-fits a.s _ R (string-paged a.s mode a.second.now a.first.now R (omega (arith, (legal-shape _ _ L.1).size)));
+    }
 
 pub enter_name-requires-clause-head_len_bound : goal.enter_name-requires-clause-head_len_bound
 enter_name-requires-clause-head_len_bound c =
@@ -89,7 +82,7 @@ returns-then-not-has_heads c =
     let a = c.args in
     let L = c.requires.lent in
     let K = c.requires.place_ended in
-    adds-key a.s a.pages.now a.lists.now (entered a.kind a.first.now a.second.now) L.0 a.x a.place K _ _ _
+    adds-key a.s a.pages.now a.lists.now (entered a.kind a.first.now a.second.now) L.0 a.x a.place K _ _
     (string-is a.s a.kind K.f a.first.now a.second.now c.front_mode.result L.1 (sym c.has_heads.ensures ∙ c.if-not-has_heads.true) c.front_mode.ensures)
     _
     _
@@ -105,18 +98,16 @@ enter_name-requires-2-clause-key c =
     let R = L.0.ranged in
     let K = c.requires.place_ended in
     let mode = c.front_mode.result in
-    let lead = lead_bytes a.x.lead in
+    let lead = c.as_slice.result.now in
     let rest = c.rest_behind-rest.result.now in
     let n = c.head_length-n.result in
     let p : (row a.kind).paired ≡ true = sym c.has_heads.ensures ∙ c.if-not-has_heads.false in
-    let b = (K.behind p).1 in
-    let l = rest-short a.kind a.first.now a.second.now _ n (limit a.s) c.rest_behind-rest.ensures (legal-shape _ _ L.1).size in (
-      record {
-        hashed = K.hashed ∙ ap fnv_of (lead_is a.kind K.f n a.first.now a.second.now lead rest mode L.0.known p c.front_mode.ensures b c.head_length-n.ensures.0 c.rest_behind-rest.ensures);
-        fits = paged-fits a.s _ R (lead-short a.s a.kind K.f lead rest mode R p c.front_mode.ensures b l);
-      },
-      no_head,
-    )
+    let b = c.as_slice.ensures ∙ (K.behind p).1 in
+    let l = rest-short a.kind a.first.now a.second.now _ n (limit a.s) c.rest_behind-rest.ensures (legal-shape _ _ L.1).size in
+    record {
+      hashed = K.hashed ∙ ap fnv_of (lead_is a.kind K.f n a.first.now a.second.now lead rest mode L.0.known p c.front_mode.ensures b c.head_length-n.ensures.0 c.rest_behind-rest.ensures);
+      fits = paged-fits a.s _ R (lead-short a.s a.kind K.f lead rest mode R p c.front_mode.ensures b l);
+    }
 
 pub enter_name-requires-2-clause-head_len_bound : goal.enter_name-requires-2-clause-head_len_bound
 enter_name-requires-2-clause-head_len_bound c =
@@ -127,7 +118,7 @@ enter_name-requires-2-clause-head_len_bound c =
     let p : (row a.kind).paired ≡ true = sym c.has_heads.ensures ∙ c.if-not-has_heads.false in
     let l = rest-short a.kind a.first.now a.second.now _ c.head_length-n.result (limit a.s) c.rest_behind-rest.ensures (legal-shape _ _ L.1).size in (
       omega (arith, limit-fits a.s R),
-      lead-short a.s a.kind K.f (lead_bytes a.x.lead) c.rest_behind-rest.result.now c.front_mode.result R p c.front_mode.ensures (K.behind p).1 l,
+      lead-short a.s a.kind K.f c.as_slice.result.now c.rest_behind-rest.result.now c.front_mode.result R p c.front_mode.ensures (c.as_slice.ensures ∙ (K.behind p).1) l,
     )
 
 pub returns : goal.returns
@@ -136,8 +127,8 @@ returns c =
     let L = c.requires.lent in
     let K = c.requires.place_ended in
     let p : (row a.kind).paired ≡ true = sym c.has_heads.ensures ∙ c.if-not-has_heads.false in
-    adds-key a.s a.pages.now a.lists.now (entered a.kind a.first.now a.second.now) L.0 a.x a.place K _ _ _
-    (lead_is a.kind K.f c.head_length-n.result a.first.now a.second.now (lead_bytes a.x.lead) c.rest_behind-rest.result.now c.front_mode.result L.0.known p c.front_mode.ensures (K.behind p).1 c.head_length-n.ensures.0 c.rest_behind-rest.ensures)
+    adds-key a.s a.pages.now a.lists.now (entered a.kind a.first.now a.second.now) L.0 a.x a.place K _ _
+    (lead_is a.kind K.f c.head_length-n.result a.first.now a.second.now c.as_slice.result.now c.rest_behind-rest.result.now c.front_mode.result L.0.known p c.front_mode.ensures (c.as_slice.ensures ∙ (K.behind p).1) c.head_length-n.ensures.0 c.rest_behind-rest.ensures)
     _
     _
     _

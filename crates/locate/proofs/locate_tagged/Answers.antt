@@ -1,41 +1,53 @@
--- Each form by its law. Assumes nothing.
-use Rattle.std.proofs.Common.{◌≡◌, sym, arith}
+-- Where the parts of each form lie gives its pieces. Assumes nothing.
+use Rattle.std.proofs.Common.{◌≡◌, ◌+◌, ℕ, true, false, sym, arith}
+use Rattle.std.specs.Prelude.{Option, Some}
 use Rattle.slices.specs.Bytes.{Bytes}
 use Rattle.string_dv_dict_split.specs.declared.Form.{Form}
+use Rattle.string_dv_dict_split.specs.declared.Form.TheVariants.{Short, Long}
 use Rattle.string_dv_dict_split.specs.Scans.{split_of}
-use Rattle.locate.proofs.Strings.{short-within, long-within, located-short, located-long, located-cut}
+use Rattle.locate.proofs.Strings.{Lies, short-lies, long-lies, lies-within, located-tagged, located-cut}
 use Rattle.locate.proofs.locate_tagged.Goals as goal
 
 -- What the split says of the entry, as it is cut out.
-form : (entry cut : Bytes) (r : Form) → entry ≡ cut → r ≡ split_of entry → split_of cut ≡ r
+form : (entry cut : Bytes) (r : Option Form) → entry ≡ cut → r ≡ split_of entry → split_of cut ≡ r
 form entry cut r e f = rw (← e) (sym f)
 
-pub overflow_add-before : goal.overflow_add-before
-overflow_add-before c = omega (arith, short-within _ _ _ c.requires.2 _ (form _ _ _ c.id_to_bytes.ensures c.in-Short.ensures))
+short : (entry cut : Bytes) (x : Form) (n : ℕ) → entry ≡ cut → x ≡ Short n → Some x ≡ split_of entry → Lies cut (n + 1) n n false
+short entry cut x n e q f = short-lies cut n (rw q at (form entry cut (Some x) e f))
 
-pub overflow_sub-text : goal.overflow_sub-text
-overflow_sub-text c = short-within _ _ _ c.requires.2 _ (form _ _ _ c.id_to_bytes.ensures c.in-Short.ensures)
+long : (entry cut : Bytes) (x : Form) (end n : ℕ) → entry ≡ cut → x ≡ Long end n → Some x ≡ split_of entry → Lies cut (end + 2) end n true
+long entry cut x end n e q f = long-lies cut end n (rw q at (form entry cut (Some x) e f))
 
-pub overflow_add-front_at : goal.overflow_add-front_at
-overflow_add-front_at c = omega (arith, short-within _ _ _ c.requires.2 _ (form _ _ _ c.id_to_bytes.ensures c.in-Short.ensures))
+pub overflow_add-tag : goal.overflow_add-tag
+overflow_add-tag c =
+    omega (arith, lies-within _ _ _ c.requires.2 (short _ _ _ _ c.id_to_bytes.ensures c.in-Some-Short.field-0-is c.in-Some-Short.ensures))
 
-pub overflow_add-before-in-Long : goal.overflow_add-before-in-Long
-overflow_add-before-in-Long c = omega (arith, long-within _ _ _ c.requires.2 _ _ (form _ _ _ c.id_to_bytes.ensures c.in-Long.ensures))
+pub overflow_add-end : goal.overflow_add-end
+overflow_add-end c =
+    omega (arith, lies-within _ _ _ c.requires.2 (long _ _ _ _ _ c.id_to_bytes.ensures c.in-Some-Long.field-0-is c.in-Some-Long.ensures))
 
-pub overflow_sub-text-in-Long : goal.overflow_sub-text-in-Long
-overflow_sub-text-in-Long c = long-within _ _ _ c.requires.2 _ _ (form _ _ _ c.id_to_bytes.ensures c.in-Long.ensures)
+pub tagged-requires : goal.tagged-requires
+tagged-requires c =
+    let h = lies-within _ _ _ c.requires.2 (short _ _ _ _ c.id_to_bytes.ensures c.in-Some-Short.field-0-is c.in-Some-Short.ensures) in
+    (h, omega (arith, c.requires.2), omega (arith, h))
 
-pub overflow_add-front_at-in-Long : goal.overflow_add-front_at-in-Long
-overflow_add-front_at-in-Long c = omega (arith, long-within _ _ _ c.requires.2 _ _ (form _ _ _ c.id_to_bytes.ensures c.in-Long.ensures))
+pub tagged-requires-in-Some-Long : goal.tagged-requires-in-Some-Long
+tagged-requires-in-Some-Long c =
+    let h = lies-within _ _ _ c.requires.2 (long _ _ _ _ _ c.id_to_bytes.ensures c.in-Some-Long.field-0-is c.in-Some-Long.ensures) in
+    (h, omega (arith, c.requires.2), omega (arith, h))
 
-pub returns-in-Short : goal.returns-in-Short
-returns-in-Short c = λ s lists there fits.
-    located-short s _ lists _ _ _ c.requires.0 there fits c.requires.1 _ (form _ _ _ c.id_to_bytes.ensures c.in-Short.ensures)
+pub returns-in-Some-Short : goal.returns-in-Some-Short
+returns-in-Some-Short c = λ s lists there fits.
+    rw c.tagged.ensures
+    (located-tagged s _ lists _ _ _ c.requires.0 there fits c.requires.1 _ _ _ _
+    (short _ _ _ _ c.id_to_bytes.ensures c.in-Some-Short.field-0-is c.in-Some-Short.ensures))
 
-pub returns-in-Long : goal.returns-in-Long
-returns-in-Long c = λ s lists there fits.
-    located-long s _ lists _ _ _ c.requires.0 there fits c.requires.1 _ _ (form _ _ _ c.id_to_bytes.ensures c.in-Long.ensures)
+pub returns-in-Some-Long : goal.returns-in-Some-Long
+returns-in-Some-Long c = λ s lists there fits.
+    rw c.tagged-in-Some-Long.ensures
+    (located-tagged s _ lists _ _ _ c.requires.0 there fits c.requires.1 _ _ _ _
+    (long _ _ _ _ _ c.id_to_bytes.ensures c.in-Some-Long.field-0-is c.in-Some-Long.ensures))
 
-pub returns-in-Cut : goal.returns-in-Cut
-returns-in-Cut c = λ s lists there fits.
-    located-cut s _ lists _ _ _ c.requires.0 there fits c.requires.1 (form _ _ _ c.id_to_bytes.ensures c.in-Cut.ensures)
+pub returns-in-None : goal.returns-in-None
+returns-in-None c = λ s lists there fits.
+    located-cut s _ lists _ _ _ c.requires.0 there fits c.requires.1 (form _ _ _ c.id_to_bytes.ensures c.in-None.ensures)

@@ -1,5 +1,6 @@
 -- Each return by its law.
 use Rattle.std.proofs.Common.{sym}
+use Rattle.std.proofs.lemmas.Result.{err_from_is_err_and}
 use Rattle.blocks.proofs.Answers.{held_below}
 use Rattle.meta_dv_dict.proofs.Answers.{globals-past, globals-bad, globals-there}
 use Rattle.meta_dv_dict.proofs.local_to_global.Goals as goal
@@ -7,13 +8,15 @@ use Rattle.meta_dv_dict.proofs.local_to_global.Goals as goal
 pub returns-then-s-l : goal.returns-then-s-l
 returns-then-s-l c = globals-past c.args.s _ _ _ _ c.requires.2 c.block_size.ensures.0 c.if-s-l.true
 
-pub returns-in_default : goal.returns-in_default
-returns-in_default c = globals-bad c.args.s _ _ _ _ c.requires.2 c.block_size.ensures.0 (sym c.in_default.ensures)
+pub returns-in_err-g : goal.returns-in_err-g
+returns-in_err-g c =
+    let p = err_from_is_err_and c.from_residual.result c.from_residual.ensures.1 in
+    rw (p.1, p.2) (globals-bad c.args.s _ _ _ _ c.requires.2 c.block_size.ensures.0 _ (sym c.in_err-g.ensures))
 
 pub number_in-requires : goal.number_in-requires
-number_in-requires c = (c.requires.0, held_below _ _ c.in-In.g (sym c.in-In.ensures))
+number_in-requires c = (c.requires.0, held_below _ _ c.in_ok-g.g (sym c.in_ok-g.ensures))
 
 pub returns : goal.returns
 returns c =
     rw (c.number_in.ensures, ← c.block_size.ensures.0)
-    (globals-there c.args.s _ _ _ _ c.requires.2 c.block_size.ensures.0 _ (sym c.in-In.ensures))
+    (globals-there c.args.s _ _ _ _ c.requires.2 c.block_size.ensures.0 _ (sym c.in_ok-g.ensures))

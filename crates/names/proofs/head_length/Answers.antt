@@ -4,7 +4,7 @@ use Rattle.names.proofs.Pairs.{iri-head}
 use Rattle.names.proofs.head_length.Goals as goal
 
 pub returns-in_default : goal.returns-in_default
-returns-in_default c = iri-head c.args.kind c.args.first.now _ (sym c.if-not-is_split.ensures) (sym c.in_default.is ∙ c.rfind_hashslash_plus-head.ensures)
+returns-in_default c = iri-head c.args.kind c.args.first.now _ (sym c.if-not-is_split.ensures) (sym c.in_default.is ∙ c.rfind_hashslash_plus.ensures)
 
 pub returns : goal.returns
-returns c = iri-head c.args.kind c.args.first.now _ (sym c.if-not-is_split.ensures) (sym c.in-Length.is ∙ c.rfind_hashslash_plus-head.ensures)
+returns c = iri-head c.args.kind c.args.first.now _ (sym c.if-not-is_split.ensures) (sym c.in-Some.is ∙ c.rfind_hashslash_plus.ensures)

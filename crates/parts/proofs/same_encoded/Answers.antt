@@ -14,41 +14,40 @@ more x y at t e = rw (e, ← drop-drop (length x) at t) (same-append x y (drop a
 
 pub returns-then-stored-start : goal.returns-then-stored-start
 returns-then-stored-start c =
-    sym (same_length (encoded c.args.form c.args.s.now) (drop c.args.start c.args.stored.now) (simp length-drop (omega arith)))
+    sym (same_length (encoded c.args.form c.args.tag.now) (drop c.args.start c.args.stored.now) (simp length-drop (omega arith)))
 
-pub has_stored-requires : goal.has_stored-requires
-has_stored-requires c =
-    let e = length-more c.args.form c.loop-i.i c.args.s.now (stored_bytes c.encode_byte-u.result) (omega arith) c.encode_byte-u.ensures in
+pub stands_at-requires : goal.stands_at-requires
+stands_at-requires c =
+    let e = length-more c.args.form c.loop-b.b-index c.args.tag.now (stored_bytes c.encode-piece.result) (omega arith) c.encode-piece.ensures in
     omega arith
 
-pub returns-then-not-has_stored : goal.returns-then-not-has_stored
-returns-then-not-has_stored c =
-    let x = stored_bytes c.encode_byte-u.result in
-    let e = encoded-more c.args.form c.loop-i.i c.args.s.now x (omega arith) c.encode_byte-u.ensures in
-    let m = more x _ c.loop-i.at c.args.stored.now e in
-    rw (← c.if-not-has_stored.ensures) at (sym m ∙ c.loop-i.invariant.same)
+pub returns-then-not-stands_at : goal.returns-then-not-stands_at
+returns-then-not-stands_at c =
+    let x = stored_bytes c.encode-piece.result in
+    let e = encoded-more c.args.form c.loop-b.b-index c.args.tag.now x (omega arith) c.encode-piece.ensures in
+    let m = more x _ c.loop-b.at c.args.stored.now e in
+    rw (← c.if-not-stands_at.ensures) at (sym m ∙ c.loop-b.invariant.same)
 
-pub loop-i-preserved : goal.loop-i-preserved
-loop-i-preserved c =
-    let x = stored_bytes c.encode_byte-u.result in
-    let e = encoded-more c.args.form c.loop-i.i c.args.s.now x (omega arith) c.encode_byte-u.ensures in
-    let n = length-more c.args.form c.loop-i.i c.args.s.now x (omega arith) c.encode_byte-u.ensures in
-    let m = more x _ c.loop-i.at c.args.stored.now e in
+pub loop-b-preserved : goal.loop-b-preserved
+loop-b-preserved c =
+    let x = stored_bytes c.encode-piece.result in
+    let e = encoded-more c.args.form c.loop-b.b-index c.args.tag.now x (omega arith) c.encode-piece.ensures in
+    let n = length-more c.args.form c.loop-b.b-index c.args.tag.now x (omega arith) c.encode-piece.ensures in
+    let m = more x _ c.loop-b.at c.args.stored.now e in
     record {
-      inside = omega arith;
       left = omega arith;
-      same = rw c.width-at.ensures (rw (← c.if-not-has_stored.ensures) at (sym m ∙ c.loop-i.invariant.same));
+      same = rw c.width-at.ensures (rw (← c.if-not-stands_at.ensures) at (sym m ∙ c.loop-b.invariant.same));
     }
 
-pub has_stored-requires-2 : goal.has_stored-requires-2
-has_stored-requires-2 c =
-    let e = length-end c.args.form c.loop-i.i c.args.s.now (stored_bytes c.encode_end.result) (omega arith) c.encode_end.ensures in
+pub stands_at-requires-2 : goal.stands_at-requires-2
+stands_at-requires-2 c =
+    let e = length-end c.args.form c.loop-b.b-index c.args.tag.now (stored_bytes c.end.result) (omega arith) c.end.ensures in
     omega arith
 
 pub returns : goal.returns
 returns c =
-    let x = stored_bytes c.encode_end.result in
-    let t = drop c.loop-i.at c.args.stored.now in
-    let e = encoded-end c.args.form c.loop-i.i c.args.s.now x (omega arith) c.encode_end.ensures in
+    let x = stored_bytes c.end.result in
+    let t = drop c.loop-b.at c.args.stored.now in
+    let e = encoded-end c.args.form c.loop-b.b-index c.args.tag.now x (omega arith) c.end.ensures in
     let w : take (length x) t ≡ t = take_all (length x) t (simp length-drop (omega (arith, ap length e))) in
-    c.has_stored-2.ensures ∙ ap (same_bytes x) w ∙ ap (λ (y : Bytes). same_bytes y t) (sym e) ∙ c.loop-i.invariant.same
+    c.stands_at-2.ensures ∙ ap (same_bytes x) w ∙ ap (λ (y : Bytes). same_bytes y t) (sym e) ∙ c.loop-b.invariant.same

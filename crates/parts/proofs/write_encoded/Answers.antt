@@ -11,29 +11,28 @@ use Rattle.parts.proofs.write_encoded.Goals as goal
 more : (x y : Bytes) {z : Bytes} (d : Bytes) (at : ℕ) {d' : Bytes} {at' : ℕ} → z ≡ x ++ y → d' ≡ sets d at x → at' ≡ at + length x → sets d' at' y ≡ sets d at z
 more x y d at e p q = rw (e, p, q) (sym (sets-append x y d at))
 
-pub put_stored-at-requires : goal.put_stored-at-requires
-put_stored-at-requires c =
-    let e = length-more c.args.form c.loop-i.i c.args.s.now (stored_bytes c.encode_byte.result) (omega arith) c.encode_byte.ensures in
+pub put-at-requires : goal.put-at-requires
+put-at-requires c =
+    let e = length-more c.args.form c.loop-b.b-index c.args.tag.now (stored_bytes c.encode.result) (omega arith) c.encode.ensures in
     omega arith
 
-pub loop-i-preserved : goal.loop-i-preserved
-loop-i-preserved c =
-    let x = stored_bytes c.encode_byte.result in
-    let p = c.put_stored-at in
-    let e = encoded-more c.args.form c.loop-i.i c.args.s.now x (omega arith) c.encode_byte.ensures in
-    let n = length-more c.args.form c.loop-i.i c.args.s.now x (omega arith) c.encode_byte.ensures in
+pub loop-b-preserved : goal.loop-b-preserved
+loop-b-preserved c =
+    let x = stored_bytes c.encode.result in
+    let p = c.put-at in
+    let e = encoded-more c.args.form c.loop-b.b-index c.args.tag.now x (omega arith) c.encode.ensures in
+    let n = length-more c.args.form c.loop-b.b-index c.args.tag.now x (omega arith) c.encode.ensures in
     record {
-      inside = omega arith;
-      stored = more x _ c.loop-i.dst c.loop-i.at e p.ensures.1 p.ensures.0 ∙ c.loop-i.invariant.stored;
+      stored = more x _ c.loop-b.dst c.loop-b.at e p.ensures.1 p.ensures.0 ∙ c.loop-b.invariant.stored;
       room = omega (arith, p.auto.dst);
     }
 
-pub put_stored-requires : goal.put_stored-requires
-put_stored-requires c =
-    let e = length-end c.args.form c.loop-i.i c.args.s.now (stored_bytes c.encode_end.result) (omega arith) c.encode_end.ensures in
+pub put-requires : goal.put-requires
+put-requires c =
+    let e = length-end c.args.form c.loop-b.b-index c.args.tag.now (stored_bytes c.end.result) (omega arith) c.end.ensures in
     omega arith
 
 pub returns : goal.returns
 returns c =
-    let e = encoded-end c.args.form c.loop-i.i c.args.s.now (stored_bytes c.encode_end.result) (omega arith) c.encode_end.ensures in
-    c.put_stored.ensures.1 ∙ ap (sets c.loop-i.dst c.loop-i.at) (sym e) ∙ c.loop-i.invariant.stored
+    let e = encoded-end c.args.form c.loop-b.b-index c.args.tag.now (stored_bytes c.end.result) (omega arith) c.end.ensures in
+    c.put.ensures.1 ∙ ap (sets c.loop-b.dst c.loop-b.at) (sym e) ∙ c.loop-b.invariant.stored

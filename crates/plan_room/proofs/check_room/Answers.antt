@@ -1,19 +1,23 @@
 -- Each refusal by its case. Assumes nothing.
-use Rattle.std.proofs.Common.{refl, sym, inl, inr}
-use Rattle.plan_room.specs.Steps.{bad-count, full-list, bad-page}
-use Rattle.plan_room.proofs.Steps.{counted-main}
+use Rattle.std.proofs.Common.{sym, inl, inr}
+use Rattle.std.proofs.lemmas.Result.{err_from_is_err_and}
+use Rattle.plan_room.specs.Steps.{full-list}
+use Rattle.plan_room.proofs.Steps.{counted-main, uncounted-main, unpaged}
 use Rattle.plan_room.proofs.check_room.Goals as goal
 
-pub returns-in_default : goal.returns-in_default
-returns-in_default c =
+pub returns-in_err-n : goal.returns-in_err-n
+returns-in_err-n c =
     let a = c.args in
-    bad-count (counted-main a.s a.lists.now a.k _ _ _ c.main_dictionary.ensures.0 c.in_default.ensures refl)
+    let p = err_from_is_err_and c.from_residual.result c.from_residual.ensures.1 in
+    rw (p.1, p.2) (uncounted-main a.s a.lists.now a.k a.f _ (counted-main a.s a.lists.now a.k _ _ c.main_dictionary.ensures.0 c.in_err-n.ensures))
 
 pub returns-then-s-n : goal.returns-then-s-n
 returns-then-s-n c =
     let a = c.args in
-    full-list _ (counted-main a.s a.lists.now a.k _ _ _ c.main_dictionary.ensures.0 c.count.ensures c.in-Entries.is)
+    full-list _ (counted-main a.s a.lists.now a.k _ _ c.main_dictionary.ensures.0 c.in_ok-n.ensures)
     (elim c.then-s-n.either [ inl x ↦ inl x | inr x ↦ inr x.1 ])
 
-pub returns-in_default-untaken : goal.returns-in_default-untaken
-returns-in_default-untaken c = bad-page (sym c.in_default-untaken.ensures)
+pub returns-in_err-untaken : goal.returns-in_err-untaken
+returns-in_err-untaken c =
+    let p = err_from_is_err_and c.from_residual-in_err-untaken.result c.from_residual-in_err-untaken.ensures.1 in
+    rw (p.1, p.2) (unpaged c.args.s c.args.lists.now _ _ _ (sym c.in_err-untaken.ensures))

@@ -61,7 +61,6 @@ loop-done-preserved c =
     let l = c.loop-done in
     let n = c.further_bytes-further.result in
     record {
-      within = omega arith;
       left = less a.value l.done l.high l.invariant.left;
       stands = more a.buffer.now l.buffer n l.done a.value l.high c.loop-done-test.true l.invariant.left l.invariant.stands;
     }

@@ -4,6 +4,4 @@ use Rattle.ranked_pair_iri_dv_dict.proofs.Words.{tops, each, no-marks}
 use Rattle.ranked_pair_iri_dv_dict.proofs.has_no_mark.Goals as goal
 
 pub returns : goal.returns
-returns c e =
-    no-marks 8 c.args.iri.now c.args.i (λ k. (c.type_inv.iri k).fits)
-    (rw c.word_from.ensures at (eqb-true (tops 8 c.word_from.result) (each 8 0x80) e))
+returns c e = no-marks 8 c.args.word.now 0 c.fits-word (rw c.number_from.ensures at (eqb-true (tops 8 c.number_from.result) (each 8 0x80) e))

@@ -1,14 +1,10 @@
--- `ranked_pair_iri_dv_dict::rfind_hashslash_plus`: what was passed has no mark, so the bytes before `pos` have the same head as all.
--- The measure is `pos`.
-use Rattle.std.proofs.Common.{◌≡◌, ◌≤◌, length, take}
+-- `ranked_pair_iri_dv_dict::rfind_hashslash_plus`: the bytes left have the same head as all. The measure is their number.
+use Rattle.std.proofs.Common.{◌≡◌, length}
 use Rattle.ranked_pair_iri_dv_dict.specs.Split.{head_length}
 use Rattle.ranked_pair_iri_dv_dict.proofs.rfind_hashslash_plus.Given as goal
 
-abbrev pub invariant-loop-pos : goal.invariant-loop-pos
-invariant-loop-pos l = record {
-  within : l.pos ≤ length l.iri;
-  same : head_length (take l.pos l.iri) ≡ head_length l.iri;
-}
+abbrev pub invariant-loop-rest : goal.invariant-loop-rest
+invariant-loop-rest l = head_length l.rest ≡ head_length l.iri
 
-abbrev pub decreases-loop-pos : goal.decreases-loop-pos
-decreases-loop-pos l = l.pos
+abbrev pub decreases-loop-rest : goal.decreases-loop-rest
+decreases-loop-rest l = length l.rest

@@ -1,8 +1,10 @@
 -- A string's key is its tag, as it is stored, and then its text. Assumes nothing.
-use Rattle.std.proofs.Common.{◌≡◌, ◌<◌, ℕ, true, false, [], ◌∷◌, length, sym, ap, subst, ◌∙◌, ltb-true, arith}
+use Rattle.std.proofs.Common.{◌≡◌, ◌<◌, ℕ, true, false, [], ◌∷◌, length, sym, ap, subst, ◌∙◌, ltb-true, eqb-true, arith}
+use Rattle.std.specs.Prelude.{Result}
 use Rattle.std.proofs.Math.Option.{none}
 use mathlib.Core.Bool.{false≢true}
 use Rattle.slices.specs.Bytes.{Bytes}
+use Rattle.refusals.specs.declared.Refusal.{Refusal}
 use Rattle.fnv.specs.Fnv.{fnv_from, fnv_of}
 use Rattle.parts.specs.declared.Mode.{Mode}
 use Rattle.parts.specs.declared.Mode.TheVariants.{Raw}
@@ -23,13 +25,14 @@ use Rattle.search.proofs.Keys.{scanned-hash, on-hash, string-paged, paged-fits, 
 use Rattle.search.proofs.Ends.{key-ends}
 use Rattle.search.proofs.Ascii.{ascii-text, no_bytes}
 use Rattle.search.proofs.find_str.Goals as goal
+use Rattle.search.proofs.find_str.Goals.{then-tag-eq0, else-tag-eq0}
 
 -- The hash of the tag, taken on over the text, is that of the key.
 hashed : (mode : Mode) (tag text : Bytes) (g h : ℕ) → g ≡ fnv_from 2166136261 (bytes_of mode tag) → h ≡ fnv_from g text → h ≡ fnv_of (key_bytes mode tag Raw text)
 hashed mode tag text g h p q = on-hash mode tag text g h (scanned-hash _ g p) q
 
 -- The search for the name ended where the search for its key did.
-ended : (s : Sizes) (pages lists : Bytes) (k : ℕ) (text tag : Bytes) (mode : Mode) (x : Sought) (r : Search) → shape_refusal s (entered k text tag) ≡ none
+ended : (s : Sizes) (pages lists : Bytes) (k : ℕ) (text tag : Bytes) (mode : Mode) (x : Sought) (r : Result Search Refusal) → shape_refusal s (entered k text tag) ≡ none
     → (row k).paired ≡ false
     → mode ≡ front_mode (row k).way
     → x.h ≡ fnv_of (key_bytes mode tag Raw text)
@@ -63,22 +66,18 @@ find_key-requires c =
       },
     )
 
-pub returns-then-tag-eq0-clause-ended : goal.returns-then-tag-eq0-clause-ended
-returns-then-tag-eq0-clause-ended c =
+pub returns-clause-ended : goal.returns-clause-ended
+returns-clause-ended c =
     let a = c.args in
     let mode = c.front_mode-mode.result in
     ended a.s a.pages.now a.lists.now a.k a.text.now a.tag.now mode _ _ c.requires.1 c.requires.2 c.front_mode-mode.ensures
     (hashed mode a.tag.now a.text.now _ _ c.hash_on.ensures c.scan-x.ensures.0)
     c.find_key.ensures
 
-pub returns-then-tag-eq0-clause-ascii : goal.returns-then-tag-eq0-clause-ascii
-returns-then-tag-eq0-clause-ascii c =
-    λ p. (ascii-text c.args.text.now 0 (subst (λ (n : ℕ). n < 128) c.scan-x.ensures.1 (ltb-true _ _ p)), no_tag c.args.tag.now c.if-tag-eq0.true)
-
-pub returns-else-tag-eq0-clause-ended : goal.returns-else-tag-eq0-clause-ended
-returns-else-tag-eq0-clause-ended c =
-    let a = c.args in
-    let mode = c.front_mode-mode.result in
-    ended a.s a.pages.now a.lists.now a.k a.text.now a.tag.now mode _ _ c.requires.1 c.requires.2 c.front_mode-mode.ensures
-    (hashed mode a.tag.now a.text.now _ _ c.hash_on.ensures c.scan-x.ensures.0)
-    c.find_key.ensures
+pub returns-clause-ascii : goal.returns-clause-ascii
+returns-clause-ascii c =
+    λ p.
+    elim c.if-tag-eq0.branch [
+      | then-tag-eq0 w ↦ (ascii-text c.args.text.now 0 (subst (λ (n : ℕ). n < 128) c.scan-x.ensures.1 (ltb-true _ _ (sym w.result-is ∙ p))), no_tag c.args.tag.now w.if-tag-eq0.true)
+      | else-tag-eq0 w ↦ absurd (w.if-tag-eq0.false (eqb-true _ _ (sym w.result-is ∙ p)))
+    ]

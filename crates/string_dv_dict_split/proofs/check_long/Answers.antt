@@ -14,8 +14,8 @@ use Rattle.string_dv_dict_split.proofs.check_long.Goals as goal
 pair : (form : Bytes) → accepted form ≡ true → LegalTagged (text_in form) (tag_in form)
 pair form p = legal-tagged (text_in form) (tag_in form) (unpack-pack form p).0
 
-pub returns-then-n-le-SHORT : goal.returns-then-n-le-SHORT
-returns-then-n-le-SHORT c = cut-form c.args.form.now (λ p. omega (arith, long-high c.requires p, c.if-n-le-SHORT.true))
+pub returns-then-tag-le-SHORT : goal.returns-then-tag-le-SHORT
+returns-then-tag-le-SHORT c = cut-form _ (λ p. omega (arith, long-high c.requires p, c.if-tag-le-SHORT.true))
 
 pub overflow_add-text-2 : goal.overflow_add-text-2
 overflow_add-text-2 c =
@@ -23,12 +23,12 @@ overflow_add-text-2 c =
     let at = c.args.end + 2 in
     omega (arith, long-low c.requires, ap length (to_end form at), length-drop at form, c.requires.within)
 
-pub returns-then-text-n-gt-NAME_LIMIT : goal.returns-then-text-n-gt-NAME_LIMIT
+pub returns-then-text-tag-gt-NAME_LIMIT : goal.returns-then-text-tag-gt-NAME_LIMIT
 unfolding name_limit
-returns-then-text-n-gt-NAME_LIMIT c =
+returns-then-text-tag-gt-NAME_LIMIT c =
     let form = c.args.form.now in
     cut-form form
-    (λ p. omega (arith, (pair form p).size, c.if-text-n-gt-NAME_LIMIT.true, ap length (long-text c.requires), c.requires.tag_length))
+    (λ p. omega (arith, (pair form p).size, c.if-text-tag-gt-NAME_LIMIT.true, ap length (long-text c.requires), c.requires.tag_length))
 
 pub returns-then-not-is_text : goal.returns-then-not-is_text
 returns-then-not-is_text c =
@@ -49,11 +49,11 @@ returns c =
     let form = c.args.form.now in
     sym h.split
     ∙ taken-form form
-    (long-taken h c.if-n-le-SHORT.false
+    (long-taken h c.if-tag-le-SHORT.false
     (is-legal (text_in form) (tag_in form)
     (record {
-      size = omega (arith, c.if-text-n-gt-NAME_LIMIT.false, ap length (long-text h), h.tag_length);
+      size = omega (arith, c.if-text-tag-gt-NAME_LIMIT.false, ap length (long-text h), h.tag_length);
       text-is = ap is_text (sym (long-text h)) ∙ sym c.is_text.ensures ∙ c.if-not-is_text.false;
       tag_is = sym (long-is-text h) ∙ sym c.is_text-2.ensures ∙ c.if-not-is_text-2.false;
-      tagged = has-bytes (tag_in form) (omega (arith, c.if-n-le-SHORT.false, h.tag_length));
+      tagged = has-bytes (tag_in form) (omega (arith, c.if-tag-le-SHORT.false, h.tag_length));
     })))

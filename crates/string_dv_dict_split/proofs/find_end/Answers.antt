@@ -1,29 +1,26 @@
--- What stands before the first '>', at each index. Assumes nothing.
-use Rattle.std.proofs.Common.{◌≡◌, ◌≢◌, ℕ, ◌+◌, ◌≤◌, ◌<◌, length, drop, get_or, drop-cons, add-one, arith}
-use Rattle.std.proofs.Math.ListN.{drop_of_length-le}
-use borrow.Author.Tests.{eq-eqb, ne_eqb}
+-- The place of the first '>' is the length of what stands before it. Assumes nothing.
+use Rattle.std.proofs.Common.{◌≡◌, eqb, [], ◌∷◌, length, refl, rules, arith}
+use Rattle.std.proofs.lemmas.Iterator.{YieldsList-from_slice}
+use Rattle.std.proofs.lemmas.Iterator.Search.{position_from_yields_List}
+use Rattle.std.specs.List.{position_or_len}
+use borrow.Author.Tests.{tests}
+use mathlib.Core.Logic.{inl, inr}
 use Rattle.slices.specs.Bytes.{Bytes}
+use Rattle.slices.proofs.Tests.{Split, split}
 use Rattle.string_dv_dict_split.specs.Forms.{before}
 use Rattle.string_dv_dict_split.proofs.find_end.Goals as goal
 
-module _ (i : ℕ) (s : Bytes) where
-  found : i < length s → get_or s i 0 ≡ 62 → length (before (drop i s)) ≡ 0
-  unfolding before
-  found l e = rw (drop-cons s i 0 l, eq-eqb _ 62 e)
-
-  passed : i < length s → get_or s i 0 ≢ 62 → length (before (drop i s)) ≡ 1 + length (before (drop (i + 1) s))
-  unfolding before
-  passed l e = rw (add-one, drop-cons s i 0 l, ne_eqb _ 62 e) (omega arith)
-
-  ended : length s ≤ i → length (before (drop i s)) ≡ 0
-  unfolding before
-  ended l = rw (drop_of_length-le s l)
-
-pub returns-then-s-i-eq62 : goal.returns-then-s-i-eq62
-returns-then-s-i-eq62 c = omega (arith, found _ _ c.loop-i-test.true c.if-s-i-eq62.true)
-
-pub loop-i-preserved : goal.loop-i-preserved
-loop-i-preserved c = (omega arith, omega (arith, passed _ _ c.loop-i-test.true c.if-s-i-eq62.false))
+position-before : (s : Bytes) → position_or_len (λ c. eqb c 62) s ≡ length (before s)
+unfolding before
+position-before [] = refl
+position-before (c ∷ s) = go (split (eqb c 62)) (position-before s)
+  where
+    go : Split (eqb c 62) → position_or_len (λ b. eqb b 62) s ≡ length (before s) → position_or_len (λ b. eqb b 62) (c ∷ s) ≡ length (before (c ∷ s))
+    go (inl p) ih = rw p
+    go (inr p) ih = rw p (omega arith)
 
 pub returns : goal.returns
-returns c = omega (arith, ended _ _ c.loop-i-test.false)
+returns c =
+    let s = c.args.s.now in
+    rw (← position-before s)
+    (position_from_yields_List (λ b. eqb b 62) _ _ c.position.result c.position.ensures.ran (YieldsList-from_slice s cc) (λ x b q k. search (rules, tests)))

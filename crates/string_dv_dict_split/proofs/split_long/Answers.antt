@@ -1,49 +1,65 @@
 -- By where the first '>' stands, and the scan of what stands before it. Assumes nothing.
-use Rattle.std.proofs.Common.{◌≡◌, ◌≢◌, ℕ, ◌<◌, length, take, refl, sym, ap, ◌∙◌, arith}
-use Rattle.std.proofs.Math.Seq.{length-take-le}
-use borrow.Author.Tests.{lt-ltb, le-ltb}
+use Rattle.std.proofs.Common.{◌≡◌, ℕ, ◌<◌, Some, None, ltb, length, take, refl, sym, ap, ◌∙◌, arith}
+use borrow.Author.Tests.{ltb-true}
+use mathlib.Core.Logic.{inl, inr}
 use Rattle.slices.specs.Bytes.{Bytes}
+use Rattle.slices.proofs.Tests.{Split, split}
 use Rattle.string_dv_dict_split.specs.declared.Scan.{Scan}
-use Rattle.string_dv_dict_split.specs.declared.Scan.TheVariants.{Whole, Escape, Bad}
-use Rattle.string_dv_dict_split.specs.declared.Form.TheVariants.{Cut}
+use Rattle.string_dv_dict_split.specs.declared.Scan.TheVariants.{Whole, Escape}
 use Rattle.string_dv_dict_split.specs.Forms.{before}
-use Rattle.string_dv_dict_split.specs.Scans.{scan_from, long_by, long_split}
-use Rattle.string_dv_dict_split.proofs.Escapes.{length_before, take-before}
+use Rattle.string_dv_dict_split.specs.Scans.{end_in, scan_from, long_by, long_split}
+use Rattle.string_dv_dict_split.proofs.Escapes.{take-before}
 use Rattle.string_dv_dict_split.proofs.split_long.Goals as goal
 
-module _ (s : Bytes) (end : ℕ) (e : end ≡ length (before s)) where
-  unended : end ≡ length s → Cut ≡ long_split s
+module _ (s : Bytes) where
+  unended : None ≡ end_in s → None ≡ long_split s
   unfolding long_split
-  unended p = rw (le-ltb (length (before s)) (length s) (omega arith))
+  unended e = go (split (ltb (length (before s)) (length s)))
+    where
+      go : Split (ltb (length (before s)) (length s)) → None ≡ long_split s
+      go (inl p) = let h : None ≡ Some (length (before s)) = rw p at e in cc
+      go (inr p) = rw p
 
-  -- The first '>' stands in the form.
-  inside : end ≢ length s → end < length s
-  inside n = omega (arith, length_before s)
+  -- The first '>' stands in the form, and what stands before it is scanned.
+  record Ended (end : ℕ) : Type 0 where
+    inside : end < length s
+    scanned : long_by end (scan_from (Some (Whole 0)) (take end s)) ≡ long_split s
 
-  ended : end ≢ length s → long_by end (scan_from (Whole 0) (take end s)) ≡ long_split s
+  ended : (end : ℕ) → Some end ≡ end_in s → Ended end
   unfolding long_split
-  ended n = let l = inside n in rw (e, take-before s, lt-ltb (length (before s)) (length s) (omega arith))
+  ended end e = go (split (ltb (length (before s)) (length s)))
+    where
+      go : Split (ltb (length (before s)) (length s)) → Ended end
+      go (inl p) =
+          let h : Some end ≡ Some (length (before s)) = rw p at e in
+          let k : end ≡ length (before s) = cc in
+          record { inside = omega (arith, ltb-true _ _ p); scanned = rw (k, take-before s, p) }
+      go (inr p) = let h : Some end ≡ None = rw p at e in cc
 
--- The scan's other answers.
-other : (end : ℕ) (r : Scan) → ((n : ℕ) → r ≡ Whole n → ⊥) → Cut ≡ long_by end r
+-- The scan's other answer.
+other : (end : ℕ) (r : Scan) → ((n : ℕ) → r ≡ Whole n → ⊥) → None ≡ long_by end (Some r)
 other end (Whole n) never = absurd (never n refl)
 other end (Escape n) never = refl
-other end Bad never = refl
 
-pub returns-then-end-s : goal.returns-then-end-s
-returns-then-end-s c = unended c.args.s.now c.find_end-end.result c.find_end-end.ensures c.if-end-s.true
+pub returns-in_err-end : goal.returns-in_err-end
+returns-in_err-end c = c.from_residual.ensures ∙ unended _ c.in_err-end.ensures
 
-pub slice_bounds-scan_tag-end : goal.slice_bounds-scan_tag-end
-slice_bounds-scan_tag-end c = sym (length-take-le _ _ (omega (arith, inside _ _ c.find_end-end.ensures c.if-end-s.false)))
+pub returns-in_err-tag : goal.returns-in_err-tag
+returns-in_err-tag c =
+    c.from_residual-in_err-tag.ensures
+    ∙ ap (long_by c.in_ok-end.end) c.in_err-tag.ensures
+    ∙ (ended _ _ c.in_ok-end.ensures).scanned
 
 pub returns-in_default : goal.returns-in_default
 returns-in_default c =
-    let end = c.find_end-end.result in
-    other end c.scan_tag.result c.in_default.not-Whole
-    ∙ ap (long_by end) c.scan_tag.ensures
-    ∙ ended c.args.s.now end c.find_end-end.ensures c.if-end-s.false
+    let end = c.in_ok-end.end in
+    other end c.in_ok-tag.field-0 c.in_default.not-Whole
+    ∙ ap (long_by end) c.in_ok-tag.ensures
+    ∙ (ended _ _ c.in_ok-end.ensures).scanned
 
 pub returns : goal.returns
 returns c =
-    let end = c.find_end-end.result in
-    ap (long_by end) (sym c.in-Whole.is ∙ c.scan_tag.ensures) ∙ ended c.args.s.now end c.find_end-end.ensures c.if-end-s.false
+    let end = c.in_ok-end.end in
+    ap (λ (r : Scan). long_by end (Some r)) (sym c.in-Whole.is)
+    ∙ ap (long_by end) c.in_ok-tag.ensures
+    ∙ (ended _ _ c.in_ok-end.ensures).scanned

@@ -1,7 +1,9 @@
 -- `utf8::is_text` meets its contract: no bytes are text, and the first pass leaves the text as it is.
-use Rattle.std.proofs.Common.{◌≡◌, true, [], ◌∷◌, length, refl, arith}
+use Rattle.std.proofs.Common.{◌≡◌, true, [], ◌∷◌, length, sym, refl, arith}
+use borrow.Author.Tests.{eqb-true}
 use Rattle.slices.specs.Bytes.{Bytes}
 use Rattle.utf8_char.specs.Text.{is_text}
+use Rattle.utf8_char.proofs.Bounds.{first_two, first-e1-ec}
 use Rattle.utf8.proofs.is_text.Goals as goal
 
 empty : (s : Bytes) → length s ≡ 0 → true ≡ is_text s
@@ -9,9 +11,15 @@ unfolding is_text
 empty [] e = refl
 empty (b ∷ s) e = absurd (omega arith)
 
-pub returns-then-s-eq0 : goal.returns-then-s-eq0
-returns-then-s-eq0 c = empty _ c.if-s-eq0.true
+pub returns-then-is_empty : goal.returns-then-is_empty
+returns-then-is_empty c = empty _ (eqb-true (length c.args.s.now) 0 (sym c.if-is_empty.ensures))
 
 pub loop-i-init : goal.loop-i-init
 unfolding is_text
 loop-i-init c = record { within = c.pass_ascii-i.ensures.1; same = c.pass_ascii-i.ensures.2 }
+
+pub pass_chars-twos-requires-clause-tails : goal.pass_chars-twos-requires-clause-tails
+pass_chars-twos-requires-clause-tails c = first_two
+
+pub pass_chars-j-requires-clause-tails : goal.pass_chars-j-requires-clause-tails
+pass_chars-j-requires-clause-tails c = first-e1-ec

@@ -1,16 +1,26 @@
 -- `utf8::pass_words` meets its contract: eight ASCII bytes more are passed; of the last eight some may be passed already.
-use Rattle.std.proofs.Common.{◌≡◌, ◌+◌, ◌-◌, length, sym, arith}
+use Rattle.std.proofs.Common.{ℕ, ◌≡◌, true, ◌+◌, ◌-◌, length, drop, take, ap, sym, ◌∙◌, arith}
+use lib.ListN.{length-take, length-drop}
+use lib.Seq.{take_all}
+use Rattle.utf8.specs.Passing.{ascii}
 use Rattle.utf8.proofs.Ascii.{pass_on, pass-run}
+use Rattle.utf8.proofs.Runs.{pass-chunk, ascii-characters}
 use Rattle.utf8.proofs.pass_words.Goals as goal
 
-pub loop-k-preserved : goal.loop-k-preserved
-loop-k-preserved c =
-    let k = c.loop-k.k in
-    pass_on _ _ _ _ c.loop-k.invariant (pass-run 8 c.args.s.now k k (omega arith) (sym c.if-not-is_ascii.ensures) (omega arith) (omega arith))
+pub loop-bytes-preserved : goal.loop-bytes-preserved
+loop-bytes-preserved c =
+    let bytes = c.in-Some.bytes.now in
+    pass-chunk 8 c.args.s.now bytes c.args.i _ c.loop-bytes.invariant c.in-Some.ensures.cases
+    (ascii-characters bytes (sym c.if-not-is_ascii.ensures))
 
-pub returns-then-is_ascii : goal.returns-then-is_ascii
-returns-then-is_ascii c =
+pub returns-in-Some-last_chunk : goal.returns-in-Some-last_chunk
+returns-in-Some-last_chunk c =
     let s = c.args.s.now in
-    let p : length s - 8 + 8 ≡ length s = omega arith in
-    pass_on _ _ _ _ c.loop-k.invariant
-    (rw p at (pass-run 8 s (length s - 8) c.loop-k.k (omega arith) (sym c.if-is_ascii.ensures) (omega arith) (omega arith)))
+    let q = c.in-Some-last_chunk.ensures.cases in
+    let p : length s - 8 + 8 ≡ length s = omega (arith, q.0) in
+    let t : take 8 (drop (length s - 8) s) ≡ drop (length s - 8) s = take_all 8 _ (omega (arith, length-drop (length s - 8) s)) in
+    let a : ascii (take 8 (drop (length s - 8) s)) ≡ true = rw t (ap ascii (sym q.1.same) ∙ sym c.if-is_ascii.ensures) in
+    let k = c.loop-bytes.k in
+    let rest : length (take (length s - k) (drop k s)) ≡ length s - k = omega (arith, length-take {A = ℕ}, length-drop k s) in
+    pass_on _ _ _ _ c.loop-bytes.invariant
+    (rw p at (pass-run 8 s (length s - 8) k (omega (arith, q.0)) a (omega (arith, rest, c.in_default.ensures.cases)) (omega (arith, c.loop-bytes.invariant.1))))

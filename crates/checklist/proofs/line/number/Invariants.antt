@@ -1,6 +1,6 @@
 -- Each turn takes one digit.
-use Rattle.std.proofs.Common.{◌≡◌}
+use Rattle.std.proofs.Common.{length}
 use Rattle.checklist.proofs.line.number.Given as goal
 
-abbrev pub invariant-loop-b : goal.invariant-loop-b
-invariant-loop-b l = l.digits ≡ l.b-index
+abbrev pub decreases-loop-rest : goal.decreases-loop-rest
+decreases-loop-rest l = length l.rest

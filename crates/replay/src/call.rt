@@ -1,0 +1,117 @@
+// A call with the answer that the original gave. It is a line of the input: + add, ? find, # count, < or any other character read; the kind;
+// f fresh, k known, - none, n or any other character a name; the number in four hexadecimal digits and a space; the first part, '|', the
+// second part. A read is given the number, and the name is its answer.
+ghost use Rattle.std.specs.Prelude.{◌≤◌};
+
+use numbers::{NamedictCounted, NamedictName, NamedictNumbered};
+
+// Which entry is called.
+#[derive(Clone, Copy)]
+pub enum Entry {
+    Add,
+    Find,
+    Read,
+    Count,
+}
+
+impl From<u8> for Entry {
+    fn from(character: u8) -> Entry {
+        match character {
+            b'+' => Entry::Add,
+            b'?' => Entry::Find,
+            b'#' => Entry::Count,
+            _ => Entry::Read,
+        }
+    }
+}
+
+// What the original answered.
+#[derive(Clone, Copy, PartialEq, Eq)]
+enum Word {
+    Fresh,
+    Known,
+    Name,
+    Nothing,
+}
+
+impl From<u8> for Word {
+    fn from(character: u8) -> Word {
+        match character {
+            b'f' => Word::Fresh,
+            b'k' => Word::Known,
+            b'-' => Word::Nothing,
+            _ => Word::Name,
+        }
+    }
+}
+
+#[derive(Clone, Copy)]
+pub struct Call<'a> {
+    pub entry: Entry,
+    pub kind: u64,
+    word: Word,
+    pub number: u64,
+    pub first: &'a [u8],
+    pub second: &'a [u8],
+}
+
+// The value of a digit of the kind or of the number.
+// Kept: std's `to_digit` is no plainer. Here every character has a value, also one that is no digit.
+fn digit(character: u8) -> u64
+    ensures { result ≤ 255 }
+{
+    match character {
+        b'a'.. => u64::from(character - b'a') + 10,
+        b'0'.. => u64::from(character - b'0'),
+        _ => 0,
+    }
+}
+
+impl<'a> Call<'a> {
+    // The call that a line is.
+    pub fn parse(line: &'a [u8]) -> Option<Call<'a>> {
+        let [entry, kind, word, a, b, c, d, _, name @ ..] = line else {
+            return None;
+        };
+        let mut parts = name.splitn(2, |b| *b == b'|');
+        Some(Call {
+            entry: Entry::from(*entry),
+            kind: digit(*kind),
+            word: Word::from(*word),
+            number: ((digit(*a) * 16 + digit(*b)) * 16 + digit(*c)) * 16 + digit(*d),
+            first: parts.next()?,
+            second: parts.next()?,
+        })
+    }
+
+    // Whether this is the answer of add or of find.
+    // Kept: the C interface gives the words as numbers, 1 for fresh, 2 for known, 4 for a name.
+    pub fn is_numbered(self, answer: NamedictNumbered) -> bool {
+        let word = match self.word {
+            Word::Fresh => 1,
+            Word::Known => 2,
+            Word::Name | Word::Nothing => 0,
+        };
+        answer.refusal == 0 && answer.word == word && answer.number == self.number
+    }
+
+    // Whether this is the answer of read, which put the name's parts into the buffer.
+    pub fn is_read(self, answer: NamedictName, buffer: &[u8]) -> bool {
+        if self.word == Word::Nothing {
+            return answer.refusal == 0 && answer.word == 0;
+        }
+        answer.refusal == 0
+            && answer.word == 4
+            && answer.kind == self.kind
+            && answer.first_len == self.first.len() as u64
+            && answer.second_len == self.second.len() as u64
+            && buffer
+                .strip_prefix(self.first)
+                .is_some_and(|behind| behind.starts_with(self.second))
+    }
+
+    // Whether this is the answer of count.
+    pub fn is_counted(self, answer: NamedictCounted) -> bool {
+        answer.refusal == 0 && answer.count == self.number
+    }
+}
