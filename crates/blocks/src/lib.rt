@@ -4,13 +4,15 @@
 
 ghost use Rattle.std.specs.Prelude.{◌≡◌, ◌-◌, ◌/◌, ◌^◌, ◌≤◌, ◌<◌, length};
 ghost use Rattle.words.specs.Words.{word_at};
-ghost use Rattle.layout.specs.Sizes.{InRange, kinds, list_bytes};
+ghost use Rattle.layout.specs.Sizes.{kinds, list_bytes};
+ghost use Rattle.layout.specs.Numbers.{kind_number};
 ghost use Rattle.layout.specs.Fields.{blocks_at, local_at};
 ghost use Rattle.blocks.specs.Blocks.{search};
 ghost use Rattle.blocks.specs.Tables.{owner_in};
 ghost use Rattle.blocks.specs.Answers.{found, Allocates, held_by, block_written};
 
-use layout::{KINDS, OWNERS, Sizes};
+use layout::lent::{Layout, Lists};
+use layout::{KINDS, Kind, OWNERS};
 use refusals::Refusal;
 use words::WORD;
 
@@ -19,74 +21,73 @@ use words::WORD;
 pub struct LocalId(pub usize);
 
 // How many numbers a block has.
-pub fn block_size(s: Sizes) -> usize
-    requires { InRange s }
-    ensures { (result ≡ 2 ^ s.w) × (0 < result) × (result ≤ 16777216) }
+pub fn block_size(layout: &Layout) -> usize
+    ensures { (result ≡ 2 ^ layout.now.sizes.w) × (0 < result) × (result ≤ 16777216) }
 {
-    let w = s.w;
+    let w = layout.sizes.w;
     1 << w
 }
 
 // The first free block, from the block `from` up.
-fn first_free(lists: &[u8], s: Sizes, from: usize) -> Option<usize>
-    requires { InRange s × (list_bytes s ≤ length lists.now) }
-    ensures { result ≡ found (search (owner_in lists.now (blocks_at s kinds)) from (s.b - from)) }
+fn first_free(lists: &Lists<'_>, from: usize) -> Option<usize>
+    ensures { result ≡ found (search (owner_in lists.now.bytes.now (blocks_at lists.now.layout.sizes kinds)) from (lists.now.layout.sizes.b - from)) }
 {
-    let at = layout::blocks_at(s, KINDS);
-    (from..s.b).find(|&g| words::number_at::<WORD>(lists, at + g) == 0)
+    let at = lists.layout.blocks_at(KINDS);
+    let words = lists.bytes;
+    (from..lists.layout.sizes.b).find(|&g| words::number_at::<WORD>(words, at + g) == 0)
 }
 
-// The global block that holds the kind k's local block l. Unopened: the memory is no dictionary's.
-pub fn held_in(lists: &[u8], s: Sizes, k: usize, l: usize) -> Result<usize, Refusal>
-    requires { InRange s × (list_bytes s ≤ length lists.now) × (k < kinds) × (l < s.b) }
-    ensures { result ≡ held_by s.b (word_at lists.now (local_at s k l)) }
+// The global block that holds the kind's local block l. Unopened: the memory is no dictionary's.
+pub fn held_in(lists: &Lists<'_>, kind: Kind, l: usize) -> Result<usize, Refusal>
+    requires { l < lists.now.layout.sizes.b }
+    ensures { result ≡ held_by lists.now.layout.sizes.b (word_at lists.now.bytes.now (local_at lists.now.layout.sizes (kind_number kind) l)) }
 {
-    let x = words::number_at::<WORD>(lists, layout::blocks_at(s, k) + l);
+    let at = lists.layout.blocks_at(usize::from(kind));
+    let x = words::number_at::<WORD>(lists.bytes, at + l);
     if x == 0 {
         return Err(Refusal::Unopened);
     }
-    if s.b < x {
+    if lists.layout.sizes.b < x {
         return Err(Refusal::Unopened);
     }
     Ok(x - 1)
 }
 
-// The block of the kind k's next local number. None: no block is left. Unopened: the memory is no dictionary's.
+// The block of the kind's next local number. None: no block is left. Unopened: the memory is no dictionary's.
 pub fn allocate_block(
-    lists: &[u8],
-    s: Sizes,
-    k: usize,
+    lists: &Lists<'_>,
+    kind: Kind,
     local: LocalId,
 ) -> Result<Option<usize>, Refusal>
-    requires { InRange s × (list_bytes s ≤ length lists.now) × (k < kinds) }
-    ensures { Allocates s lists.now k local.0 result }
+    ensures { Allocates lists.now.layout.sizes lists.now.bytes.now (kind_number kind) local.0 result }
 {
     let n = local.0;
-    let size = block_size(s);
+    let size = block_size(&lists.layout);
     let l = n / size;
     // Each earlier local block has taken a global one, so none is left for this one.
-    if s.b <= l {
+    if lists.layout.sizes.b <= l {
         return Ok(None);
     }
     if n % size != 0 {
-        let g = held_in(lists, s, k, l)?;
+        let g = held_in(lists, kind, l)?;
         return Ok(Some(g));
     }
     if l == 0 {
-        return Ok(first_free(lists, s, 0));
+        return Ok(first_free(lists, 0));
     }
     let before = l - 1;
-    let g = held_in(lists, s, k, before)?;
-    Ok(first_free(lists, s, g + before))
+    let g = held_in(lists, kind, before)?;
+    Ok(first_free(lists, g + before))
 }
 
-// Writes that the kind k's local number is in the block g.
-pub fn take_block(lists: &mut [u8], s: Sizes, k: usize, local: LocalId, g: usize)
-    requires { InRange s × (list_bytes s ≤ length lists.old) × (k < kinds) × (local.0 / 2 ^ s.w < s.b) × (g < s.b) }
-    ensures { lists.new ≡ block_written s lists.old k local.0 g }
+// Writes that the kind's local number is in the block g.
+pub fn take_block(lists: &mut [u8], layout: &Layout, kind: Kind, local: LocalId, g: usize)
+    requires { (list_bytes layout.now.sizes ≤ length lists.old) × (local.0 / 2 ^ layout.now.sizes.w < layout.now.sizes.b) × (g < layout.now.sizes.b) }
+    ensures { lists.new ≡ block_written layout.now.sizes lists.old (kind_number kind) local.0 g }
 {
     let n = local.0;
-    let l = n / block_size(s);
-    words::put_number::<WORD>(lists, layout::blocks_at(s, k) + l, g + 1);
-    words::put_number::<WORD>(lists, layout::blocks_at(s, KINDS) + g, 1 + k + OWNERS * l);
+    let k = usize::from(kind);
+    let l = n / block_size(layout);
+    words::put_number::<WORD>(lists, layout.blocks_at(k) + l, g + 1);
+    words::put_number::<WORD>(lists, layout.blocks_at(KINDS) + g, 1 + k + OWNERS * l);
 }

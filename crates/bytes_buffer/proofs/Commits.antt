@@ -56,7 +56,7 @@ module _ (s : Sizes) (sp : ℕ → Space) (lists : Bytes) (d n : ℕ) (r : InRan
   -- ---- it does not, and a page is left
 
   module _ (e : fits s.p (sp d) n ≡ false) (b : n ≤ page_size s) (left : all_pages sp < s.n) where
-    -- `take_page`'s requirement.
+    -- `take_page`'s requirement, and that d is a dictionary's number.
     pub take-may : (8 * page_at (all_pages sp) + 8 ≤ length lists) × (d < dictionaries) × (n < 2097152)
     take-may = (page-in s lists (all_pages sp) f left, l, omega (arith, page-size s r))
 

@@ -1,13 +1,15 @@
 // Pages (Nemo's bytes_buffer.rs): where the next entry goes. It only reads; a page's words and its own bytes are written elsewhere.
 #![tactic(auto)]
 
-ghost use Rattle.std.specs.Prelude.{◌≡◌, ◌+◌, ◌^◌, ◌≤◌, ◌<◌, length};
+ghost use Rattle.std.specs.Prelude.{◌≡◌, ◌+◌, ◌^◌, ◌≤◌, ◌<◌};
 ghost use Rattle.words.specs.Words.{word_at};
-ghost use Rattle.layout.specs.Sizes.{InRange, dictionaries, page_size, list_bytes};
+ghost use Rattle.layout.specs.Sizes.{page_size};
+ghost use Rattle.layout.specs.Numbers.{dictionary_number};
 ghost use Rattle.layout.specs.Fields.{untaken_at};
 ghost use Rattle.bytes_buffer.specs.Spots.{lowest_of, next_of, spot_in, InPages, untaken_after};
 
-use layout::{CURRENT, OFFSETS, OWNERS, PAGES, STRIDE, Sizes, UNTAKEN};
+use layout::lent::Lists;
+use layout::{CURRENT, Dictionary, OFFSETS, OWNERS, PAGES, STRIDE, Sizes, UNTAKEN};
 use refusals::Refusal;
 use words::WORD;
 
@@ -19,14 +21,13 @@ pub enum Spot {
 }
 
 // The lowest untaken page; n if none is left. Unopened: the word is no dictionary's.
-// Kept: n for none. It is the word as memory holds it, and a plan writes it back. An Option would be made of it and turned back into it.
+// Kept: n for none. It is the word as memory holds it, and a plan counts on from it. An Option would be made of it and turned back into it.
 #[tactic(auto, unfolding(crate::specs::Spots::lowest_of, layout::specs::Sizes::list_bytes))]
-pub fn untaken(lists: &[u8], s: Sizes) -> Result<usize, Refusal>
-    requires { InRange s × (list_bytes s ≤ length lists.now) }
-    ensures { result ≡ lowest_of s (word_at lists.now untaken_at) }
+pub fn untaken(lists: &Lists<'_>) -> Result<usize, Refusal>
+    ensures { result ≡ lowest_of lists.now.layout.sizes (word_at lists.now.bytes.now untaken_at) }
 {
-    let w = words::number_at::<WORD>(lists, UNTAKEN);
-    let n = s.n;
+    let w = words::number_at::<WORD>(lists.bytes, UNTAKEN);
+    let n = lists.layout.sizes.n;
     if w <= n {
         return Ok(w);
     }
@@ -48,12 +49,13 @@ fn next(s: Sizes, untaken: usize) -> Result<Spot, Refusal>
 // Where an entry of len bytes goes in dictionary d. NoPage: no page is left. Unopened: the words are no dictionary's. It only reads: one add may plan two
 // entries, the second with the next untaken page.
 #[tactic(auto, unfolding(layout::specs::Sizes::list_bytes))]
-pub fn plan(lists: &[u8], s: Sizes, d: usize, untaken: usize, len: usize) -> Result<Spot, Refusal>
-    requires in_range { InRange s × (list_bytes s ≤ length lists.now) }
-    requires d_lt_dictionaries { (d < dictionaries) × (len ≤ page_size s) }
-    ensures { (result ≡ spot_in s (word_at lists.now) d untaken len) × InPages s untaken len result }
+pub fn plan(lists: &Lists<'_>, d: Dictionary, untaken: usize, len: usize) -> Result<Spot, Refusal>
+    requires { len ≤ page_size lists.now.layout.sizes }
+    ensures spot { result ≡ spot_in lists.now.layout.sizes (word_at lists.now.bytes.now) (dictionary_number d) untaken len }
+    ensures in_pages { InPages lists.now.layout.sizes untaken len result }
 {
-    let current = words::number_at::<WORD>(lists, CURRENT + STRIDE * d);
+    let s = lists.layout.sizes;
+    let current = words::number_at::<WORD>(lists.bytes, CURRENT + STRIDE * usize::from(d));
     if current == 0 {
         return next(s, untaken);
     }
@@ -62,8 +64,8 @@ pub fn plan(lists: &[u8], s: Sizes, d: usize, untaken: usize, len: usize) -> Res
         return Err(Refusal::Unopened);
     }
     let page = current - 1;
-    let used = words::number_at::<WORD>(lists, PAGES + page) / OWNERS % OFFSETS;
-    let size = layout::page_size(s);
+    let used = words::number_at::<WORD>(lists.bytes, PAGES + page) / OWNERS % OFFSETS;
+    let size = lists.layout.page_size();
     if size < used {
         return Err(Refusal::Unopened);
     }

@@ -20,7 +20,6 @@ use Rattle.layout.specs.declared.Sizes.{Sizes}
 use Rattle.layout.specs.Sizes.{InRange, dictionaries, page_size, page_bytes, list_bytes}
 use Rattle.layout.specs.Fields.{untaken_at, place_at}
 use Rattle.layout.proofs.Ranges.{page-size}
-use Rattle.layout.specs.Lent.{Lent}
 use Rattle.bytes_index.specs.Entries.{Entries, Misses}
 use Rattle.bytes_index.proofs.Index.{place-fits}
 use Rattle.bytes_buffer.specs.declared.Spot.{Spot}
@@ -67,7 +66,8 @@ dict-as s pages lists d es es' c c' t t' p q r D =
     subst (λ (x : Entries). DictAt s pages lists d x c' t') p
     (subst (λ (x : ℕ). DictAt s pages lists d es x t') q (subst (λ (x : ℕ → ℕ). DictAt s pages lists d es c x) r D))
 
-module _ (s : Sizes) (st : Store) (pages lists : Bytes) (d place stamp : ℕ) (key : Bytes) (F : Lent s pages lists dictionaries d) (S : StoreAt s st pages lists)
+module _ (s : Sizes) (st : Store) (pages lists : Bytes) (d place stamp : ℕ) (key : Bytes) (ranged : InRange s)
+    (pages-fit : page_bytes s ≤ length pages) (lists-fit : list_bytes s ≤ length lists) (known : d < dictionaries) (S : StoreAt s st pages lists)
     (room : st.count d < s.e) (short : length key ≤ page_size s) (stamp-fits : stamp < 2 ^ 64)
     (later : (i : ℕ) → i + 1 ≡ st.count d → st.stamp d i < stamp) (pl : place < 2 * s.e)
     (M : Misses s (λ j. quad_at lists (place_at s d j)) (st.entries d) key place) where
@@ -79,7 +79,7 @@ module _ (s : Sizes) (st : Store) (pages lists : Bytes) (d place stamp : ℕ) (k
   unfolding inserted
   finish page offset lists' T P H l w =
       record {
-        header = header-kept s (length pages) _ lists lists' (rw (length-sets pages (page * page_size s + offset) key) F.pages-fit) (rw l F.lists-fit) w S.header;
+        header = header-kept s (length pages) _ lists lists' (rw (length-sets pages (page * page_size s + offset) key) pages-fit) (rw l lists-fit) w S.header;
         paged = H;
         dict = λ k kl. go k kl (ℕ_discrete k d);
       }
@@ -92,11 +92,11 @@ module _ (s : Sizes) (st : Store) (pages lists : Bytes) (d place stamp : ℕ) (k
           (λ (x : ℕ). DictAt s (sets pages (page * page_size s + offset) key) lists' x ((inserted s st d key stamp).entries x) ((inserted s st d key stamp).count x)
           ((inserted s st d key stamp).stamp x)) (sym q)
           (dict-as s _ lists' d _ _ _ _ _ _ (sym (upd_same st.entries d _)) (sym (upd_same st.count d _)) (sym (upd_same st.stamp d _))
-          (dict-own s F.ranged pages lists lists' d (st.count d) page offset stamp place key F.known room F.pages-fit T P (st.entries d) (st.stamp d)
-          (S.dict d F.known) later M))
+          (dict-own s ranged pages lists lists' d (st.count d) page offset stamp place key known room pages-fit T P (st.entries d) (st.stamp d)
+          (S.dict d known) later M))
       go k kl (no q) =
           dict-as s _ lists' k _ _ _ _ _ _ (sym (upd_other st.entries d _ k q)) (sym (upd_other st.count d _ k q)) (sym (upd_other st.stamp d _ k q))
-          (dict-other s F.ranged pages lists lists' d (st.count d) page offset stamp place key F.known room F.pages-fit T P k (st.entries k) (st.count k) (st.stamp k)
+          (dict-other s ranged pages lists lists' d (st.count d) page offset stamp place key known room pages-fit T P k (st.entries k) (st.count k) (st.stamp k)
           kl q (S.dict k kl))
 
   -- The lists with the entry's own words.
@@ -107,17 +107,17 @@ module _ (s : Sizes) (st : Store) (pages lists : Bytes) (d place stamp : ℕ) (k
     step₁ : Step s lists lists₁ d (st.count d) page offset (length key) stamp place (fnv_of key)
     unfolding lists₁
     step₁ =
-        words-written s lists d (st.count d) page offset (length key) stamp place (fnv_of key) F.ranged F.lists-fit F.known room pl
-        (omega (arith, page-size s F.ranged, F.ranged.n)) stamp-fits
-        (place-fits (st.count d) key (omega (arith, room, F.ranged.e)))
+        words-written s lists d (st.count d) page offset (length key) stamp place (fnv_of key) ranged lists-fit known room pl
+        (omega (arith, page-size s ranged, ranged.n)) stamp-fits
+        (place-fits (st.count d) key (omega (arith, room, ranged.e)))
 
     tables₁ : SameTables s (word_at lists) (word_at lists₁)
     unfolding lists₁
-    tables₁ = tables-kept s lists d (st.count d) page offset (length key) stamp place (fnv_of key) F.ranged F.lists-fit F.known room pl
+    tables₁ = tables-kept s lists d (st.count d) page offset (length key) stamp place (fnv_of key) ranged lists-fit known room pl
 
     fits₁ : list_bytes s ≤ length lists₁
     unfolding lists₁
-    fits₁ = subst (λ (x : ℕ). list_bytes s ≤ x) (sym (length-written s lists d (st.count d) page offset (length key) stamp place (fnv_of key))) F.lists-fit
+    fits₁ = subst (λ (x : ℕ). list_bytes s ≤ x) (sym (length-written s lists d (st.count d) page offset (length key) stamp place (fnv_of key))) lists-fit
 
     pages₁ : PagesAt s st.space (word_at lists₁)
     pages₁ = framed s st.space (word_at lists) (word_at lists₁) S.paged tables₁
@@ -131,23 +131,23 @@ module _ (s : Sizes) (st : Store) (pages lists : Bytes) (d place stamp : ℕ) (k
       let x = fits-facts s.p (st.space d) (length key) e in
       let g : ℕ = current_of (word_at lists) d in
       let o : ℕ = (st.space d).used in
-      let p : g < s.n = omega (arith, current-below s st.space (word_at lists) d S.paged F.known x.0, S.paged.room) in
+      let p : g < s.n = omega (arith, current-below s st.space (word_at lists) d S.paged known x.0, S.paged.room) in
       let i : o + length key ≤ page_size s = omega (arith, x.1, size_is s) in
       let L : Bytes = lists₁ g o p i in
       let A = tables₁ g o p i in
-      let c : current_of (word_at L) d ≡ g = ap (λ (y : ℕ). y - 1) (A.current d F.known) in
+      let c : current_of (word_at L) d ≡ g = ap (λ (y : ℕ). y - 1) (A.current d known) in
       let H : PagesAt s (grown_at s st.space d (length key)) (word_at (extended_page L g (o + length key))) =
       subst (λ (y : ℕ). PagesAt s (grown_at s st.space d (length key)) (word_at (extended_page L y (o + length key)))) c
-      (extended-holds s st.space L d (length key) F.ranged (fits₁ g o p i) (pages₁ g o p i) F.known e) in
+      (extended-holds s st.space L d (length key) ranged (fits₁ g o p i) (pages₁ g o p i) known e) in
       let P : Placed s (word_at L) (word_at (extended_page L g (o + length key))) d g o (length key) =
       subst (λ (y : ℕ). Placed s (word_at L) (word_at (extended_page L y (o + length key))) d y o (length key)) c
-      (placed-current s st.space L d (length key) F.ranged (fits₁ g o p i) (pages₁ g o p i) F.known e) in
+      (placed-current s st.space L d (length key) ranged (fits₁ g o p i) (pages₁ g o p i) known e) in
       finish g o (extended_page L g (o + length key))
-      (step-beyond s lists L _ d (st.count d) g o (length key) stamp place (fnv_of key) F.known (beyond-extended s L g (o + length key) p) (step₁ g o p i))
+      (step-beyond s lists L _ d (st.count d) g o (length key) stamp place (fnv_of key) known (beyond-extended s L g (o + length key) p) (step₁ g o p i))
       (placed_same s (word_at lists) (word_at L) _ d g o (length key) A P)
       H
       (length-lists s lists d (st.count d) place (Current g o) stamp key)
-      (λ j h. words-beside s lists d (st.count d) place stamp key F.ranged F.lists-fit F.known room pl (Current g o) (p, i) j (inl h))
+      (λ j h. words-beside s lists d (st.count d) place stamp key ranged lists-fit known room pl (Current g o) (p, i) j (inl h))
 
   -- At the front of the lowest untaken page.
   store-next : fits s.p (st.space d) (length key) ≡ false → all_pages st.space < s.n
@@ -159,12 +159,12 @@ module _ (s : Sizes) (st : Store) (pages lists : Bytes) (d place stamp : ℕ) (k
       let i : 0 + length key ≤ page_size s = omega arith in
       let L : Bytes = lists₁ g 0 p i in
       finish g 0 (took_page L d g (length key))
-      (step-beyond s lists L _ d (st.count d) g 0 (length key) stamp place (fnv_of key) F.known (beyond-took s L d g (length key) F.known p) (step₁ g 0 p i))
+      (step-beyond s lists L _ d (st.count d) g 0 (length key) stamp place (fnv_of key) known (beyond-took s L d g (length key) known p) (step₁ g 0 p i))
       (placed_same s (word_at lists) (word_at L) _ d g 0 (length key) (tables₁ g 0 p i)
-      (placed-next s st.space L d (length key) F.ranged (fits₁ g 0 p i) (pages₁ g 0 p i) F.known e short p))
-      (took-holds s st.space L d (length key) F.ranged (fits₁ g 0 p i) (pages₁ g 0 p i) F.known e short p)
+      (placed-next s st.space L d (length key) ranged (fits₁ g 0 p i) (pages₁ g 0 p i) known e short p))
+      (took-holds s st.space L d (length key) ranged (fits₁ g 0 p i) (pages₁ g 0 p i) known e short p)
       (length-lists s lists d (st.count d) place (Next g) stamp key)
-      (λ j h. words-beside s lists d (st.count d) place stamp key F.ranged F.lists-fit F.known room pl (Next g) (p, short) j (inl h))
+      (λ j h. words-beside s lists d (st.count d) place stamp key ranged lists-fit known room pl (Next g) (p, short) j (inl h))
 
   pub store-more : (spot : Spot) → spot_in s (word_at lists) d (word_at lists untaken_at) (length key) ≡ Ok spot
       → StoreAt s (inserted s st d key stamp) (pages_after s pages spot key) (lists_after s lists d (st.count d) place spot stamp key)
@@ -185,12 +185,12 @@ module _ (s : Sizes) (st : Store) (pages lists : Bytes) (d place stamp : ℕ) (k
 
       go : Split (fits s.p (st.space d) (length key)) → Dec (all_pages st.space < s.n)
           → StoreAt s (inserted s st d key stamp) (pages_after s pages spot key) (lists_after s lists d (st.count d) place spot stamp key)
-      go (inl e) h = at-spot (sym q ∙ plan-fit s st.space W d (W untaken_at) (length key) S.paged F.known e) (store-current e)
+      go (inl e) h = at-spot (sym q ∙ plan-fit s st.space W d (W untaken_at) (length key) S.paged known e) (store-current e)
       go (inr e) (yes h) =
-          at-spot (sym q ∙ plan-unfit s st.space W d (W untaken_at) (length key) S.paged F.known e ∙ ap (next_of s) low ∙ next-is s (all_pages st.space) h) (store-next e h)
+          at-spot (sym q ∙ plan-unfit s st.space W d (W untaken_at) (length key) S.paged known e ∙ ap (next_of s) low ∙ next-is s (all_pages st.space) h) (store-next e h)
       go (inr e) (no h) =
           let f : ◌≡◌ {A = Result Spot Refusal} (Ok spot) (Err NoPage) =
-          sym q ∙ plan-unfit s st.space W d (W untaken_at) (length key) S.paged F.known e ∙ ap (next_of s) low ∙ next-none s (all_pages st.space) (omega arith) in
+          sym q ∙ plan-unfit s st.space W d (W untaken_at) (length key) S.paged known e ∙ ap (next_of s) low ∙ next-none s (all_pages st.space) (omega arith) in
           let z : ◌≡◌ {A = ℕ} 0 1 = cc in
           absurd (omega arith)
 
@@ -200,7 +200,7 @@ pub store-insert : (s : Sizes) (st : Store) (pages lists : Bytes) (d place : ℕ
     → InRange s → page_bytes s ≤ length pages → list_bytes s ≤ length lists → StoreAt s st pages lists → Ready s st pages lists d place spot stamp key
     → StoreAt s (inserted s st d key stamp) (pages_after s pages spot key) (lists_after s lists d (st.count d) place spot stamp key)
 store-insert s st pages lists d place spot stamp key r f g S R =
-    store-more s st pages lists d place stamp key (record { ranged = r; pages-fit = f; lists-fit = g; known = R.known }) S R.room R.short R.stamp-fits R.later
+    store-more s st pages lists d place stamp key r f g R.known S R.room R.short R.stamp-fits R.later
     R.searched.range
     (R.searched.right (st.entries d) (S.dict d R.known).holds)
     spot

@@ -3,10 +3,10 @@
 
 ghost use Rattle.std.specs.Prelude.{◌≡◌, ◌+◌, ◌*◌, ◌≤◌, ◌<◌, length, take, drop};
 ghost use Rattle.words.specs.Words.{word_at};
-ghost use Rattle.layout.specs.Sizes.{InRange, dictionaries, list_bytes};
+ghost use Rattle.layout.specs.Numbers.{dictionary_number};
 ghost use Rattle.layout.specs.Fields.{count_at};
-ghost use Rattle.layout.specs.Lent.{Lent};
-ghost use Rattle.bytes_key.specs.Keys.{bytes_in, IsKey};
+ghost use Rattle.layout.specs.Lent.{Fit};
+ghost use Rattle.bytes_key.specs.KeyBytes.{bytes_in};
 ghost use Rattle.bytes_dictionary.specs.Written.{pages_after, lists_after, HasRoom, page_at, offset_at, pages_with, lists_with, HasRoomIf};
 ghost use Rattle.bytes_dictionary.specs.Reading.{count_in, Looked};
 
@@ -14,7 +14,8 @@ use bytes_buffer::Spot;
 use bytes_entry::{Extent, NewEntry};
 use bytes_index::Span;
 use bytes_key::Key;
-use layout::{COUNT, STRIDE, Sizes};
+use layout::lent::{Layout, Lists};
+use layout::{COUNT, Dictionary, STRIDE};
 use refusals::Refusal;
 use words::WORD;
 
@@ -24,12 +25,11 @@ pub struct EntryId(pub usize);
 
 // How many entries a dictionary has. Unopened: the memory is no dictionary's.
 #[tactic(auto, unfolding(crate::specs::Reading::count_in, layout::specs::Sizes::list_bytes))]
-pub fn count(lists: &[u8], s: Sizes, d: usize) -> Result<usize, Refusal>
-    requires { InRange s × (list_bytes s ≤ length lists.now) × (d < dictionaries) }
-    ensures { result ≡ count_in s (word_at lists.now (count_at d)) }
+pub fn count(lists: &Lists<'_>, d: Dictionary) -> Result<usize, Refusal>
+    ensures { result ≡ count_in lists.now.layout.sizes (word_at lists.now.bytes.now (count_at (dictionary_number d))) }
 {
-    let n = words::number_at::<WORD>(lists, COUNT + STRIDE * d);
-    let e = s.e;
+    let n = words::number_at::<WORD>(lists.bytes, COUNT + STRIDE * usize::from(d));
+    let e = lists.layout.sizes.e;
     if n <= e {
         return Ok(n);
     }
@@ -54,21 +54,19 @@ fn extent_at(spot: Spot, len: usize) -> Extent
 fn insert_at(
     pages: &mut [u8],
     lists: &mut [u8],
-    s: Sizes,
-    key: Key,
+    layout: &Layout,
+    key: &Key<'_, '_>,
     x: NewEntry,
     spot: Spot,
-    front: &[u8],
-    rest: &[u8],
 )
-    requires lent { Lent s pages.old lists.old dictionaries key.d × (x.n < s.e) × (x.place < 2 * s.e) }
-    requires has_room { HasRoom s (length (bytes_in key front.now rest.now)) spot × IsKey key front.now rest.now }
-    ensures pages { pages.new ≡ pages_after s pages.old spot (bytes_in key front.now rest.now) }
-    ensures lists { lists.new ≡ lists_after s lists.old key.d x.n x.place spot x.stamp (bytes_in key front.now rest.now) }
+    requires fit { Fit layout.now.sizes pages.old lists.old × (x.n < layout.now.sizes.e) × (x.place < 2 * layout.now.sizes.e) }
+    requires has_room { HasRoom layout.now.sizes (length (bytes_in key.now)) spot }
+    ensures pages { pages.new ≡ pages_after layout.now.sizes pages.old spot (bytes_in key.now) }
+    ensures lists { lists.new ≡ lists_after layout.now.sizes lists.old (dictionary_number key.now.d) x.n x.place spot x.stamp (bytes_in key.now) }
 {
-    let len = bytes_key::key_length(key, front, rest);
+    let len = key.parts.len();
     let lies = extent_at(spot, len);
-    bytes_entry::place_entry(pages, lists, s, key, x, lies, front, rest);
+    bytes_entry::place_entry(pages, lists, layout, key.d, key.h, &key.parts, x, lies);
     match spot {
         Spot::Current { page, offset } => page_words::extend(lists, page, offset + len),
         Spot::Next(page) => page_words::take_page(lists, key.d, page, len),
@@ -79,34 +77,31 @@ fn insert_at(
 pub fn insert(
     pages: &mut [u8],
     lists: &mut [u8],
-    s: Sizes,
-    key: Key,
+    layout: &Layout,
+    key: &Key<'_, '_>,
     x: NewEntry,
     spot: Option<Spot>,
-    front: &[u8],
-    rest: &[u8],
 )
-    requires lent { Lent s pages.old lists.old dictionaries key.d × (x.n < s.e) × (x.place < 2 * s.e) }
-    requires has_room { HasRoomIf s (length (bytes_in key front.now rest.now)) spot × IsKey key front.now rest.now }
-    ensures pages { pages.new ≡ pages_with s pages.old spot (bytes_in key front.now rest.now) }
-    ensures lists { lists.new ≡ lists_with s lists.old key.d x.n x.place spot x.stamp (bytes_in key front.now rest.now) }
+    requires fit { Fit layout.now.sizes pages.old lists.old × (x.n < layout.now.sizes.e) × (x.place < 2 * layout.now.sizes.e) }
+    requires has_room { HasRoomIf layout.now.sizes (length (bytes_in key.now)) spot }
+    ensures pages { pages.new ≡ pages_with layout.now.sizes pages.old spot (bytes_in key.now) }
+    ensures lists { lists.new ≡ lists_with layout.now.sizes lists.old (dictionary_number key.now.d) x.n x.place spot x.stamp (bytes_in key.now) }
 {
     if let Some(spot) = spot {
-        insert_at(pages, lists, s, key, x, spot, front, rest);
+        insert_at(pages, lists, layout, key, x, spot);
     }
 }
 
 // Where an entry lies in the pages. None: its number is not below the count. Unopened: the memory is no dictionary's.
-pub fn look_up(lists: &[u8], s: Sizes, d: usize, id: EntryId) -> Result<Option<Span>, Refusal>
-    requires { InRange s × (list_bytes s ≤ length lists.now) × (d < dictionaries) }
-    ensures { Looked s d id.0 lists.now result }
+pub fn look_up(lists: &Lists<'_>, d: Dictionary, id: EntryId) -> Result<Option<Span>, Refusal>
+    ensures { Looked lists.now.layout.sizes (dictionary_number d) id.0 lists.now.bytes.now result }
 {
     let i = id.0;
-    let n = count(lists, s, d)?;
+    let n = count(lists, d)?;
     if n <= i {
         return Ok(None);
     }
-    let span = bytes_index::entry(lists, s, d, i)?;
+    let span = bytes_index::entry(lists, d, i)?;
     Ok(Some(span))
 }
 

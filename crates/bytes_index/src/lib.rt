@@ -1,17 +1,17 @@
 // The index in which a dictionary's entries are searched. It replaces the HashMap of Nemo's bytes_dictionary.rs. The places of a search and the comparison of keys are in bytes_key.
 #![tactic(auto)]
 
-ghost use Rattle.std.specs.Prelude.{◌≤◌, ◌<◌, length};
+ghost use Rattle.std.specs.Prelude.{◌<◌};
 ghost use Rattle.words.specs.Words.{word_at};
-ghost use Rattle.layout.specs.Sizes.{InRange, dictionaries, list_bytes};
+ghost use Rattle.layout.specs.Numbers.{dictionary_number};
 ghost use Rattle.layout.specs.Fields.{entry_at};
-ghost use Rattle.layout.specs.Lent.{Lent};
 ghost use Rattle.bytes_index.specs.Field.{SpanOf};
-ghost use Rattle.bytes_key.specs.Keys.{bytes_in, IsKey};
+ghost use Rattle.bytes_key.specs.KeyBytes.{bytes_in};
 ghost use Rattle.bytes_index.specs.Search.{Searched};
 
 use bytes_key::Key;
-use layout::{ENTRY_NUMBERS, LENGTH, OFFSETS, PAGE_NUMBERS, Sizes};
+use layout::lent::{Lists, Memory};
+use layout::{Dictionary, ENTRY_NUMBERS, LENGTH, OFFSETS, PAGE_NUMBERS};
 use refusals::Refusal;
 use words::{QUAD, WORD};
 
@@ -23,6 +23,7 @@ pub enum Probe {
 }
 
 // Where an entry's bytes lie in the pages.
+// Kept: no slice. Where an entry lies is read from the lists alone, and a slice would need the pages in each of these steps, which is no plainer.
 #[derive(Clone, Copy)]
 pub struct Span {
     pub at: usize,
@@ -31,16 +32,17 @@ pub struct Span {
 
 // Where the bytes of entry i of dictionary d lie. Unopened: its word is no dictionary's.
 #[tactic(auto, using(crate::proofs::Inside::inside))]
-pub fn entry(lists: &[u8], s: Sizes, d: usize, i: usize) -> Result<Span, Refusal>
-    requires { InRange s × (list_bytes s ≤ length lists.now) × (d < dictionaries) × (i < s.e) }
-    ensures { SpanOf s (word_at lists.now (entry_at s d i)) result }
+pub fn entry(lists: &Lists<'_>, d: Dictionary, i: usize) -> Result<Span, Refusal>
+    requires { i < lists.now.layout.sizes.e }
+    ensures { SpanOf lists.now.layout.sizes (word_at lists.now.bytes.now (entry_at lists.now.layout.sizes (dictionary_number d) i)) result }
 {
-    let w = words::number_at::<WORD>(lists, layout::dict_at(s, d) + i);
+    let at = lists.layout.dict_at(usize::from(d));
+    let w = words::number_at::<WORD>(lists.bytes, at + i);
     let page = w % PAGE_NUMBERS;
     let offset = w / PAGE_NUMBERS % OFFSETS;
     let len = w / LENGTH;
-    let size = layout::page_size(s);
-    if s.n <= page {
+    let size = lists.layout.page_size();
+    if lists.layout.sizes.n <= page {
         return Err(Refusal::Unopened);
     }
     if size < offset + len {
@@ -54,22 +56,17 @@ pub fn entry(lists: &[u8], s: Sizes, d: usize, i: usize) -> Result<Span, Refusal
 // Searches the index of a key's dictionary. It goes from the key's hash up, over at most 2e places, to the key's entry or the first empty place.
 // An entry whose hash has other top bits has another key. Unopened: the memory is no dictionary's.
 #[tactic(auto, using(crate::proofs::Inside::inside))]
-fn probe_index(
-    pages: &[u8],
-    lists: &[u8],
-    s: Sizes,
-    key: Key,
-    front: &[u8],
-    rest: &[u8],
-) -> Result<Probe, Refusal>
-    requires { Lent s pages.now lists.now dictionaries key.d × IsKey key front.now rest.now }
-    ensures { Searched s key.d pages.now lists.now (bytes_in key front.now rest.now) result }
+pub fn bytes_to_id(memory: &Memory<'_, '_>, key: &Key<'_, '_>) -> Result<Probe, Refusal>
+    ensures { Searched memory.now.lists.layout.sizes (dictionary_number key.now.d) memory.now.pages.now memory.now.lists.bytes.now (bytes_in key.now) result }
 {
-    let e = s.e;
+    let pages = memory.pages;
+    let lists = &memory.lists;
+    let e = lists.layout.sizes.e;
     let m = 2 * e;
     let d = key.d;
-    let (front, rest) = key.parts(front, rest);
-    let places = 2 * (layout::dict_at(s, d) + m);
+    let front = key.parts.front;
+    let rest = key.parts.rest;
+    let places = 2 * (lists.layout.dict_at(usize::from(d)) + m);
     let measured = front.measure();
     let n = rest.measure();
     let top = bytes_key::top_bits(key.h);
@@ -81,7 +78,7 @@ fn probe_index(
         if t == m {
             return Err(Refusal::Unopened);
         }
-        let q = words::number_at::<QUAD>(lists, places + j);
+        let q = words::number_at::<QUAD>(lists.bytes, places + j);
         if q == 0 {
             return Ok(Probe::Free(j));
         }
@@ -93,7 +90,7 @@ fn probe_index(
             if e < w {
                 return Err(Refusal::Unopened);
             }
-            let span = entry(lists, s, d, w - 1)?;
+            let span = entry(lists, d, w - 1)?;
             let end = span.at + span.len;
             if bytes_key::front_is(&pages[span.at..end], front, measured, n) {
                 let mut left = n;
@@ -114,20 +111,4 @@ fn probe_index(
     }
     let i = w - 1;
     Ok(Probe::At(i))
-}
-
-// Searches the index of a key's dictionary.
-// Each slice is passed on as a part of itself. So the compiler takes the slices apart, and a call passes their contents in registers.
-pub fn bytes_to_id(
-    pages: &[u8],
-    lists: &[u8],
-    s: Sizes,
-    key: Key,
-    front: &[u8],
-    rest: &[u8],
-) -> Result<Probe, Refusal>
-    requires { Lent s pages.now lists.now dictionaries key.d × IsKey key front.now rest.now }
-    ensures { Searched s key.d pages.now lists.now (bytes_in key front.now rest.now) result }
-{
-    probe_index(&pages[..], &lists[..], s, key, &front[..], &rest[..])
 }

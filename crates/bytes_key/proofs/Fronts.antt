@@ -12,21 +12,22 @@ use borrow.Author.Tests.{eqb-true, eq-eqb, ne_eqb}
 use Rattle.slices.specs.Bytes.{Bytes, same_bytes}
 use Rattle.slices.proofs.Bytes.{bytes-true, bytes_same}
 use Rattle.slices.proofs.Tests.{and_left, and_right}
-use Rattle.parts.specs.Parts.{bytes_of}
+use Rattle.parts.specs.Parts.{part_bytes}
 use Rattle.bytes_key.specs.declared.Key.{Key}
-use Rattle.bytes_key.specs.Keys.{bytes_in, IsKey, front_is}
+use Rattle.bytes_key.specs.declared.Parts.{Parts}
+use Rattle.bytes_key.specs.Keys.{front_is}
+use Rattle.bytes_key.specs.KeyBytes.{stored}
 
 -- ---- a key
 
-pub length-key : (key : Key) (front rest : Bytes) → length (bytes_in key front rest) ≡ length (bytes_of key.front front) + length (bytes_of key.rest rest)
-length-key key front rest = length-append (bytes_of key.front front) (bytes_of key.rest rest)
+pub length-key : (x : Parts) → length (stored x) ≡ length (part_bytes x.front) + length (part_bytes x.rest)
+length-key x = length-append (part_bytes x.front) (part_bytes x.rest)
 
 -- Each of its parts fits 64 bits.
-pub key_fits : (key : Key) (front rest : Bytes) → IsKey key front rest
-    → (length (bytes_of key.front front) < 2 ^ 64) × (length (bytes_of key.rest rest) < 2 ^ 64)
-key_fits key front rest k =
-    let l = length-key key front rest in
-    (omega (arith, k.fits), omega (arith, k.fits))
+pub key_fits : (key : Key) → (length (part_bytes key.parts.front) < 2 ^ 64) × (length (part_bytes key.parts.rest) < 2 ^ 64)
+key_fits key =
+    let l = length-key key.parts in
+    (omega (arith, key.fits), omega (arith, key.fits))
 
 -- ---- a front and n bytes more
 

@@ -1,23 +1,12 @@
--- Which bytes a key has, and what the comparison with stored bytes answers. Assumes nothing.
-use Rattle.std.specs.Prelude.{◌≡◌, Bool, ◌&&◌, ◌++◌, ℕ, ◌+◌, ◌-◌, ◌^◌, ◌<◌, ◌≤◌, eqb, length, get_or, take}
+-- The bytes of two parts in a row, and what the comparison of a key with stored bytes answers. Assumes nothing.
+use Rattle.std.specs.Prelude.{◌≡◌, Bool, ◌&&◌, ◌++◌, ℕ, ◌+◌, ◌-◌, ◌<◌, ◌≤◌, eqb, length, get_or, take}
 use Rattle.slices.specs.Bytes.{Bytes, same_bytes}
-use Rattle.fnv.specs.Fnv.{fnv_of}
 use Rattle.parts.specs.declared.Mode.{Mode}
 use Rattle.parts.specs.Parts.{bytes_of}
-use Rattle.bytes_key.specs.declared.Key.{Key}
 
 -- A key: the stored bytes of a front, then those of a rest.
 abbrev pub key_bytes : Mode → Bytes → Mode → Bytes → Bytes
 key_bytes mode front mode' rest = bytes_of mode front ++ bytes_of mode' rest
-
--- The same by the modes of a key.
-abbrev pub bytes_in : Key → Bytes → Bytes → Bytes
-bytes_in key front rest = key_bytes key.front front key.rest rest
-
--- The hash is that of the key's bytes, and their number fits 64 bits.
-pub record IsKey (key : Key) (front rest : Bytes) : Type 0 where
-  pub hashed : key.h ≡ fnv_of (bytes_in key front rest)
-  pub fits : length (bytes_in key front rest) < 2 ^ 64
 
 -- A stored key is this front and n bytes more.
 unfoldable pub front_is : Bytes → Bytes → ℕ → Bool

@@ -1,51 +1,44 @@
 // A key: its bytes in two parts, how many they are, the places of its search, and its comparison with stored bytes.
 #![tactic(auto)]
 
-ghost use Rattle.std.specs.Prelude.{◌≡◌, ◌+◌, ◌%◌, ◌^◌, ◌≤◌, ◌<◌, length};
-ghost use Rattle.parts.specs.Parts.{bytes_of, part_bytes};
+ghost use Rattle.std.specs.Prelude.{◌≡◌, ◌+◌, ◌%◌, ◌^◌, ◌≤◌, ◌<◌, ◌++◌, length};
+ghost use Rattle.fnv.specs.Fnv.{fnv_of};
+ghost use Rattle.parts.specs.Parts.{part_bytes};
 ghost use Rattle.layout.specs.Fields.{top_of};
-ghost use Rattle.bytes_key.specs.Keys.{bytes_in, front_is, Agreeing};
+ghost use Rattle.bytes_key.specs.Keys.{front_is, Agreeing};
 
-use layout::ENTRY_NUMBERS;
+use layout::{Dictionary, ENTRY_NUMBERS};
 use parts::{Mode, Part};
 use words::WORD;
 
-// A key to search or to store, without its bytes: its dictionary, its hash, and the modes of its front and of its rest. The caller computes the hash, because
-// it knows which parts the key has.
+// The bytes of a key: its front, and its rest behind it.
 #[derive(Clone, Copy)]
-pub struct Key {
-    pub d: usize,
+pub struct Parts<'f, 'r> {
+    pub front: Part<'f>,
+    pub rest: Part<'r>,
+}
+
+// A key to search or to store: its dictionary, its hash and its bytes. The caller computes the hash, because it knows which parts the key has.
+#[derive(Clone, Copy)]
+pub struct Key<'f, 'r> {
+    pub d: Dictionary,
     pub h: u32,
-    pub front: Mode,
-    pub rest: Mode,
+    pub parts: Parts<'f, 'r>,
+    pub ghost hashed: { h ≡ fnv_of (part_bytes parts.front ++ part_bytes parts.rest) },
+    pub ghost fits: { length (part_bytes parts.front ++ part_bytes parts.rest) < 2 ^ 64 },
 }
 
-impl Key {
-    // The two parts of the key that has these bytes.
-    #[inline(always)]
-    pub fn parts<'a>(self, front: &'a [u8], rest: &'a [u8]) -> (Part<'a>, Part<'a>)
-        ensures front { part_bytes result.0 ≡ bytes_of self.front front.now }
-        ensures rest { part_bytes result.1 ≡ bytes_of self.rest rest.now }
+impl Parts<'_, '_> {
+    ghost use Rattle.std.specs.Prelude.{◌≡◌, ◌^◌, ◌<◌, length};
+    ghost use Rattle.bytes_key.specs.KeyBytes.{stored};
+
+    // How many bytes of a page they take.
+    pub fn len(&self) -> usize
+        requires { length (stored self.now) < 2 ^ 64 }
+        ensures { result ≡ length (stored self.now) }
     {
-        let front = Part {
-            mode: self.front,
-            bytes: front,
-        };
-        let rest = Part {
-            mode: self.rest,
-            bytes: rest,
-        };
-        (front, rest)
+        self.front.measure() + self.rest.measure()
     }
-}
-
-// How many bytes of a page a key takes.
-pub fn key_length(key: Key, front: &[u8], rest: &[u8]) -> usize
-    requires { length (bytes_in key front.now rest.now) < 2 ^ 64 }
-    ensures { result ≡ length (bytes_in key front.now rest.now) }
-{
-    let (front, rest) = key.parts(front, rest);
-    front.measure() + rest.measure()
 }
 
 // The place where the search starts.
@@ -120,6 +113,8 @@ fn agreeing(pages: &[u8], end: usize, rest: &[u8], left: usize) -> usize
 }
 
 // Compares more of a rest in its mode. The rest's stored length is n. A raw rest is compared eight bytes at a time, any other one at once.
+// Kept: `end` is a place in the pages, here and above. The word before it is read at an index of the pages, so a slice up to it is no plainer.
+// Kept: a test of the mode. Only a raw rest lies as it is stored, so only its bytes can be compared eight at a time.
 pub fn agreeing_in(pages: &[u8], end: usize, rest: Part<'_>, n: usize, left: usize) -> usize
     requires { (0 < left) × (left ≤ n) × (n ≡ length (part_bytes rest)) × (n ≤ end) × (end ≤ length pages.now) }
     ensures { Agreeing pages.now end (part_bytes rest.entry) left result }

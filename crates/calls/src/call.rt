@@ -28,7 +28,7 @@ pub enum Call {
 
 impl Call {
     // The call that the first character of a line says.
-    // Kept: no TryFrom. Not every character is one of these, so there is no error to name.
+    // Kept: an Option. A character that is none of these is no error, and nobody would read an error type; TryFrom is no plainer.
     pub fn named(character: u8) -> Option<Call> {
         Some(match character {
             b'o' => Call::Open,
@@ -173,10 +173,11 @@ impl Memory<'_> {
     }
 
     // Whether the number reads back as this name. The buffer is just as long as both parts.
+    // Kept: `replay` has a test like this one. It has its own type of names and a case of no name, so one for both is no plainer.
     pub fn reads_back(&self, number: u64, name: &Name, buffer: &mut [u8]) -> bool {
         let answer = namedict::namedict_read(self.pages, self.lists, number, buffer);
         answer.refusal == 0
-            && answer.word == 4
+            && answer.word == numbers::NAME
             && answer.kind == name.kind
             && answer.first_len == name.first.len() as u64
             && answer.second_len == name.second.len() as u64

@@ -74,7 +74,7 @@ pub enum Rule {
 
 impl Rule {
     // The rule that the first character of a line says.
-    // Kept: no TryFrom. Not every character is one of these, so there is no error to name.
+    // Kept: an Option. A character that is none of these is no error, and nobody would read an error type; TryFrom is no plainer.
     pub fn named(character: u8) -> Option<Rule> {
         Some(match character {
             b'T' => Rule::IsText,

@@ -11,6 +11,7 @@ mod show;
 use std::io;
 use std::io::{BufWriter, Read, Write};
 
+// Kept: `replay` begins alike. A function for both would take what is done with the input as a closure, and is no plainer than these lines.
 fn main(rt: HostRuntime) -> io::Result<()> {
     let alloc = rt.alloc();
     let mut input = Vec::new(alloc);

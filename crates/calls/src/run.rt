@@ -42,7 +42,7 @@ enum Line {
 
 impl Line {
     // What the first character of a line says.
-    // Kept: no TryFrom. Not every character is one of these, so there is no error to name.
+    // Kept: an Option. A character that is none of these is no error, and nobody would read an error type; TryFrom is no plainer.
     fn named(character: u8) -> Option<Line> {
         match character {
             b'-' => Some(Line::Title),

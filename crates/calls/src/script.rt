@@ -11,6 +11,7 @@ use std::alloc::{AllocError, Global};
 pub const LONGEST: usize = 8004;
 
 // A name that a call is given.
+// Kept: the kind is a number. The lists have calls with kinds that are none, and the C interface takes any number.
 #[derive(Drop)]
 pub struct Name {
     pub kind: u64,

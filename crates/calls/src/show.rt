@@ -101,8 +101,8 @@ impl Display for Numbered {
             return write!(f, "{}", Refused(refusal, word | number));
         }
         match word {
-            1 => write!(f, " fresh {number}"),
-            2 => write!(f, " known {number}"),
+            numbers::FRESH => write!(f, " fresh {number}"),
+            numbers::KNOWN => write!(f, " known {number}"),
             _ => write!(f, " none{}", beside(word | number)),
         }
     }
@@ -123,7 +123,7 @@ impl Display for Found {
         let others = kind | first_len | second_len;
         if refusal != 0 {
             write!(f, "{}", Refused(refusal, word | others))
-        } else if word == 4 {
+        } else if word == numbers::NAME {
             write!(f, " kind {kind} lengths {first_len} {second_len}")
         } else {
             write!(f, " none{}", beside(word | others))

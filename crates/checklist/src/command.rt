@@ -24,6 +24,7 @@ enum Command<'a> {
 }
 
 // The command with this name, and the words that are left behind its own.
+// Kept: a match, and no TryFrom. A command takes words too, and those that are left are for the next one.
 fn named<'a>(name: &[u8], words: &'a [Vec<u8>]) -> Option<(Command<'a>, &'a [Vec<u8>])>
     ensures { IfSome result (λ c. length c.1.now ≤ length words.now) }
 {

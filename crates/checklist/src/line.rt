@@ -1,4 +1,5 @@
 // The parts of a line: a decimal number, or a name. A name is its kind, a space, its first part and, behind a tab, its second part.
+// Kept: the kind is a number, as the C interface takes it. The library says which kinds there are.
 #[derive(Clone, Copy)]
 pub struct Name<'a> {
     pub kind: u64,

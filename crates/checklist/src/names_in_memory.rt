@@ -48,9 +48,6 @@ impl Added {
     }
 }
 
-// The word of an answer to a name that is new.
-const FRESH: u64 = 1;
-
 // The refusal that an answer gives by its number; 0 stands for none. The library gives no number above the last refusal's, so the default is never taken.
 fn checked(refusal: u64) -> Result<(), Refusal> {
     match refusal {
@@ -100,7 +97,7 @@ impl Names {
         );
         checked(answer.refusal)?;
         Ok(match answer.word {
-            FRESH => Added::Fresh(answer.number),
+            numbers::FRESH => Added::Fresh(answer.number),
             _ => Added::Known(answer.number),
         })
     }
@@ -121,7 +118,7 @@ impl Names {
 
 // The name whose parts stand at the buffer's front, if there is one.
 fn name_in(buffer: &[u8], answer: NamedictName) -> Option<Name<'_>> {
-    if answer.word == 0 {
+    if answer.word == numbers::NONE {
         return None;
     }
     let (first, behind) = buffer.split_at_checked(answer.first_len as usize)?;

@@ -25,6 +25,7 @@ pub fn count(n: &mut u64) {
 }
 
 // Why a command that fails is the last one.
+// Kept: an enum. It is the error of a Result, and `?` makes it of other errors by `From`, which an Option could not have.
 #[derive(Drop)]
 pub enum Stop {
     // A remark says why, and the program ends as usual.

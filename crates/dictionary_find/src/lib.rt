@@ -5,7 +5,9 @@ ghost use Rattle.model.specs.Names.{entered};
 ghost use Rattle.memory.specs.Promises.{FindPost};
 ghost use Rattle.dictionary_find.specs.Answers.{found_by};
 
+use layout::lent::{Lists, Memory};
 use meta_dv_dict::GlobalId;
+use names::Name;
 use refusals::Refusal;
 use search::Search;
 
@@ -19,14 +21,21 @@ pub fn find<'a>(
 ) -> Result<Option<GlobalId>, Refusal>
     ensures { FindPost pages.entry.now lists.entry.now (entered kind first.now second.now) (found_by result) pages.exit.now lists.exit.now }
 {
-    let s = header::check_header(pages, lists)?;
-    names::check_shape(s, kind, first, second)?;
+    let layout = header::check_header(pages, lists)?;
+    let name = Name::new(layout.sizes, kind, first, second)?;
+    let memory = Memory {
+        lists: Lists {
+            layout,
+            bytes: lists,
+        },
+        pages,
+    };
     // The text is checked after the search, which does not wait for it.
-    let y = search::find_name(pages, lists, s, kind, first, second);
-    names::check_text(kind, first, second, y.ascii)?;
-    match y.found? {
+    let x = search::find_name(&memory, &name);
+    name.check_text(x.ascii)?;
+    match x.found? {
         Search::Found(local) => {
-            let number = meta_dv_dict::local_to_global(lists, s, kind, local)?;
+            let number = meta_dv_dict::local_to_global(&memory.lists, name.kind, local)?;
             Ok(Some(number))
         }
         Search::Missing(_) => Ok(None),

@@ -9,7 +9,7 @@ use Rattle.refusals.specs.declared.Refusal.{Refusal}
 use Rattle.refusals.specs.declared.Refusal.TheVariants.{BadSize, ShortMemory}
 use Rattle.layout.specs.declared.Sizes.{Sizes}
 use Rattle.std.specs.Prelude.{Some, None}
-use Rattle.layout.specs.Sizes.{InRange, made, page_bytes, list_bytes}
+use Rattle.layout.specs.Sizes.{made, page_bytes, list_bytes}
 use Rattle.layout.proofs.Ranges.{ranged, made-fit, made-bad}
 use Rattle.header.specs.Opened.{opened_lists}
 use Rattle.model.specs.Answers.{OpenAnswer}
@@ -35,40 +35,34 @@ module _ (s : Sizes) (pages lists : Bytes) where
   open-bad m = open-refused BadSize (rw (made-bad s m))
 
 -- The sizes t that passed are the sizes s given.
-module _ (s t : Sizes) (m : made s ≡ Some t) where
-  pub made_range : InRange t
-  made_range =
+module _ (s t : Sizes) (m : made s ≡ Some t) (pages lists : Bytes) where
+  pub open-short-pages : length pages < page_bytes t → OpenPost s pages lists (OpenAnswer.refused ShortMemory) pages lists
+  unfolding open_answer
+  open-short-pages h =
       let p = made-fit s t m in
-      ranged t (rw p.0 at p.1)
+      let l : length pages < page_bytes s = rw p.0 h in
+      open-refused s pages lists ShortMemory (rw (p.1, lt-ltb _ _ l))
 
-  module _ (pages lists : Bytes) where
-    pub open-short-pages : length pages < page_bytes t → OpenPost s pages lists (OpenAnswer.refused ShortMemory) pages lists
+  module _ (f : page_bytes t ≤ length pages) where
+    pub open-short-lists : length lists < list_bytes t → OpenPost s pages lists (OpenAnswer.refused ShortMemory) pages lists
     unfolding open_answer
-    open-short-pages h =
+    open-short-lists h =
         let p = made-fit s t m in
-        let l : length pages < page_bytes s = rw p.0 h in
-        open-refused s pages lists ShortMemory (rw (p.1, lt-ltb _ _ l))
+        let k : page_bytes s ≤ length pages = rw p.0 f in
+        let l : length lists < list_bytes s = rw p.0 h in
+        open-refused s pages lists ShortMemory (rw (p.1, le-ltb _ _ k, lt-ltb _ _ l))
 
-    module _ (f : page_bytes t ≤ length pages) where
-      pub open-short-lists : length lists < list_bytes t → OpenPost s pages lists (OpenAnswer.refused ShortMemory) pages lists
-      unfolding open_answer
-      open-short-lists h =
-          let p = made-fit s t m in
-          let k : page_bytes s ≤ length pages = rw p.0 f in
-          let l : length lists < list_bytes s = rw p.0 h in
-          open-refused s pages lists ShortMemory (rw (p.1, le-ltb _ _ k, lt-ltb _ _ l))
-
-      pub open_done : list_bytes t ≤ length lists → (lists' : Bytes) → lists' ≡ opened_lists t lists → OpenPost s pages lists OpenAnswer.done pages lists'
-      unfolding open_answer
-      open_done g lists' e =
-          let p = made-fit s t m in
-          let k : page_bytes s ≤ length pages = rw p.0 f in
-          let l : list_bytes s ≤ length lists = rw p.0 g in
-          let q : lists' ≡ opened_lists s lists = rw p.0 e in
-          record {
-            answer = rw (p.1, le-ltb _ _ k, le-ltb _ _ l);
-            pages-kept = refl;
-            kept = λ w h. let z : ◌≡◌ {A = ℕ} 0 1 = cc in absurd (omega arith);
-            beyond = rw q (opened-same-beyond s pages lists);
-            whole = λ h. rw q (opened-stands s pages lists (ranged s p.1) k l);
-          }
+    pub open_done : list_bytes t ≤ length lists → (lists' : Bytes) → lists' ≡ opened_lists t lists → OpenPost s pages lists OpenAnswer.done pages lists'
+    unfolding open_answer
+    open_done g lists' e =
+        let p = made-fit s t m in
+        let k : page_bytes s ≤ length pages = rw p.0 f in
+        let l : list_bytes s ≤ length lists = rw p.0 g in
+        let q : lists' ≡ opened_lists s lists = rw p.0 e in
+        record {
+          answer = rw (p.1, le-ltb _ _ k, le-ltb _ _ l);
+          pages-kept = refl;
+          kept = λ w h. let z : ◌≡◌ {A = ℕ} 0 1 = cc in absurd (omega arith);
+          beyond = rw q (opened-same-beyond s pages lists);
+          whole = λ h. rw q (opened-stands s pages lists (ranged s p.1) k l);
+        }

@@ -4,7 +4,7 @@
 ghost use Rattle.memory.specs.Promises.{OpenPost};
 ghost use Rattle.dictionary_open.specs.Answers.{opened_by};
 
-use layout::Sizes;
+use layout::lent::Layout;
 use refusals::Refusal;
 
 // Makes the memory a dictionary with no names: page width p, pages n, list length e, block width w, blocks b.
@@ -19,13 +19,13 @@ pub fn open(
 ) -> Result<(), Refusal>
     ensures { OpenPost (record { p = p; n = n; e = e; w = w; b = b }) pages.entry.now lists.old (opened_by result) pages.exit.now lists.new }
 {
-    let s = Sizes::new(p, n, e, w, b).ok_or(Refusal::BadSize)?;
-    if pages.len() < layout::page_bytes(s) {
+    let layout = Layout::new(p, n, e, w, b).ok_or(Refusal::BadSize)?;
+    if pages.len() < layout.page_bytes() {
         return Err(Refusal::ShortMemory);
     }
-    if lists.len() < layout::list_bytes(s) {
+    if lists.len() < layout.list_bytes() {
         return Err(Refusal::ShortMemory);
     }
-    header::init(lists, s);
+    header::init(lists, &layout);
     Ok(())
 }

@@ -1,9 +1,9 @@
 -- Each answer of count is as promised. Assumes nothing.
-use Prim.Native.Nat.{ℕ, ◌<◌, ◌≤◌}
+use Prim.Native.Nat.{ℕ, zero, suc, ◌<◌, ◌≤◌}
 use mathlib.Core.Path.{◌≡◌, refl, sym, ap, ◌∙◌}
 use mathlib.Core.Logic.{inl, inr}
 use native.Mathlib.Omega.{arith}
-use borrow.Author.Tests.{le-leb, lt-leb}
+use borrow.Author.Tests.{le-leb, lt-leb, ne_eqb}
 use lib.ListN.{length}
 use Rattle.std.specs.Prelude.{Result, Ok, Err}
 use Rattle.slices.specs.Bytes.{Bytes}
@@ -12,6 +12,10 @@ use Rattle.refusals.specs.declared.Refusal.{Refusal}
 use Rattle.refusals.specs.declared.Refusal.TheVariants.{Unopened, BadKind}
 use Rattle.layout.specs.declared.Sizes.{Sizes}
 use Rattle.layout.specs.Sizes.{kinds}
+use Rattle.layout.specs.Numbers.{kind_number, kind_by}
+use Rattle.layout.specs.declared.Kind.{Kind}
+use Rattle.layout.specs.declared.Kind.TheVariants.{Iri, Plain, Tagged, Typed}
+use Rattle.layout.specs.declared.UnknownKind.{UnknownKind}
 use Rattle.layout.specs.Fields.{count_at}
 use Rattle.header.specs.Header.{header_of}
 use Rattle.bytes_dictionary.specs.Reading.{count_in}
@@ -24,6 +28,32 @@ use Rattle.memory.specs.Promises.{CountBounded, CountPost}
 use Rattle.dictionary_read.specs.Answers.{counted_by}
 use Rattle.memory.proofs.Counts.{main-counted}
 use Rattle.memory.proofs.Headers.{header-refused, no-state, sizes-read, not-always, one-sizes}
+
+-- ---- a kind by its number
+
+pub kind-unknown : (n : ℕ) (x : UnknownKind) → kind_by n ≡ Err x → kinds ≤ n
+kind-unknown zero x e = absurd (cc e)
+kind-unknown (suc zero) x e = absurd (cc e)
+kind-unknown (suc (suc zero)) x e = absurd (cc e)
+kind-unknown (suc (suc (suc zero))) x e = absurd (cc e)
+kind-unknown (suc (suc (suc (suc n)))) x e = omega arith
+
+pub kind-known : (n : ℕ) (k : Kind) → kind_by n ≡ Ok k → n ≡ kind_number k
+kind-known zero k e =
+    let q : Iri ≡ k = cc e in ap kind_number q
+kind-known (suc zero) k e =
+    let q : Plain ≡ k = cc e in ap kind_number q
+kind-known (suc (suc zero)) k e =
+    let q : Tagged ≡ k = cc e in ap kind_number q
+kind-known (suc (suc (suc zero))) k e =
+    let q : Typed ≡ k = cc e in ap kind_number q
+kind-known (suc (suc (suc (suc n)))) k e =
+    let m : ℕ = suc (suc (suc (suc n))) in
+    let q : Err (record { 0 = m }) ≡ Ok k =
+    rw (ne_eqb m 0 (λ p. omega arith), ne_eqb m 1 (λ p. omega arith), ne_eqb m 2 (λ p. omega arith), ne_eqb m 3 (λ p. omega arith)) at e in
+    absurd (cc q)
+
+-- ---- the answers
 
 pub count-unopened : (pages lists : Bytes) (kind : ℕ) (why : Refusal) → header_of (length pages) lists ≡ Err why
     → CountPost pages lists kind (CountAnswer.refused why) pages lists

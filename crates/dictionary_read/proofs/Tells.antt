@@ -13,6 +13,8 @@ use Rattle.slices.specs.Bytes.{Bytes}
 use Rattle.refusals.specs.declared.Refusal.{Refusal}
 use Rattle.refusals.specs.declared.Refusal.TheVariants.{Unopened, ShortBuffer}
 use Rattle.layout.specs.declared.Sizes.{Sizes}
+use Rattle.layout.specs.Numbers.{kind_number}
+use Rattle.layout.proofs.Numbers.{kind-below}
 use Rattle.header.specs.Header.{header_of}
 use Rattle.model.specs.Names.{Name, size}
 use Rattle.model.specs.Answers.{ReadAnswer}
@@ -95,18 +97,18 @@ module _ (pages lists : Bytes) (s : Sizes) (e : header_of (length pages) lists �
             rw (lt-leb (size a) (length x) t) (refl, refl)
 
     pub read_name : q.first + q.second ≤ length x → (y : Bytes) → y ≡ pieces_in pages q ++ drop (q.first + q.second) x
-        → ReadPost pages lists number x (ReadAnswer.name q.kind q.first q.second) y pages lists
+        → ReadPost pages lists number x (ReadAnswer.name (kind_number q.kind) q.first q.second) y pages lists
     read_name l y w =
         record {
           unopened = λ u. absurd (not-always pages lists s e u);
-          bounded = (h.range.kinded, l, rw w (drop_at (pieces_in pages q) _ _ h.range.lengths));
+          bounded = (kind-below q.kind, l, rw w (drop_at (pieces_in pages q) _ _ h.range.lengths));
           buffer-length = rw w (simp (length-append, length-drop) (omega (arith, h.range.lengths)));
           kept = (refl, refl);
           buffer-kept = λ f. absurd (f _ _ _ refl);
-          whole = told (ReadAnswer.name q.kind q.first q.second) y (λ o. Tells pages o (Ok (Some q))) go h.right;
+          whole = told (ReadAnswer.name (kind_number q.kind) q.first q.second) y (λ o. Tells pages o (Ok (Some q))) go h.right;
         }
       where
-        go : (o : Option Name) → Tells pages o (Ok (Some q)) → (ReadAnswer.name q.kind q.first q.second ≡ read_by x o) × (y ≡ buffer_by x o)
+        go : (o : Option Name) → Tells pages o (Ok (Some q)) → (ReadAnswer.name (kind_number q.kind) q.first q.second ≡ read_by x o) × (y ≡ buffer_by x o)
         go none p = absurd p
         go (some a) p =
             let t : size a ≤ length x = omega (arith, p.first, p.second) in

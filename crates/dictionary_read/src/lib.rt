@@ -4,14 +4,16 @@
 ghost use Rattle.memory.specs.Promises.{ReadPost, CountPost};
 ghost use Rattle.dictionary_read.specs.Answers.{told_by, counted_by};
 
-use layout::KINDS;
+use kind_table::Row;
+use layout::Kind;
+use layout::lent::{Lists, Memory};
 use meta_dv_dict::GlobalId;
 use refusals::Refusal;
 
 // A name's kind and the lengths of its parts.
 #[derive(Clone, Copy, Debug, PartialEq, Eq)]
 pub struct Told {
-    pub kind: usize,
+    pub kind: Kind,
     pub first: usize,
     pub second: usize,
 }
@@ -25,8 +27,15 @@ pub fn read(
 ) -> Result<Option<Told>, Refusal>
     ensures { ReadPost pages.entry.now lists.entry.now number.0 buffer.old (told_by result) buffer.new pages.exit.now lists.exit.now }
 {
-    let s = header::check_header(pages, lists)?;
-    let Some(x) = locate::locate_name(pages, lists, s, number)? else {
+    let layout = header::check_header(pages, lists)?;
+    let memory = Memory {
+        lists: Lists {
+            layout,
+            bytes: lists,
+        },
+        pages,
+    };
+    let Some(x) = locate::locate_name(&memory, number)? else {
         return Ok(None);
     };
     let kind = x.kind;
@@ -47,9 +56,13 @@ pub fn read(
 pub fn count(pages: &[u8], lists: &[u8], kind: usize) -> Result<usize, Refusal>
     ensures { CountPost pages.entry.now lists.entry.now kind (counted_by result) pages.exit.now lists.exit.now }
 {
-    let s = header::check_header(pages, lists)?;
-    if KINDS <= kind {
+    let layout = header::check_header(pages, lists)?;
+    let Ok(kind) = Kind::try_from(kind) else {
         return Err(Refusal::BadKind);
-    }
-    bytes_dictionary::count(lists, s, kind_table::main_dictionary(kind))
+    };
+    let lists = Lists {
+        layout,
+        bytes: lists,
+    };
+    bytes_dictionary::count(&lists, Row::of(kind).main)
 }

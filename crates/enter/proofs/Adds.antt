@@ -13,10 +13,10 @@ use Rattle.slices.specs.Bytes.{Bytes}
 use Rattle.refusals.specs.declared.Refusal.{Refusal}
 use Rattle.refusals.specs.declared.Refusal.TheVariants.{Unopened}
 use Rattle.layout.specs.declared.Sizes.{Sizes}
-use Rattle.layout.specs.Sizes.{page_bytes, list_bytes, kinds}
-use Rattle.layout.specs.Lent.{Lent}
+use Rattle.layout.specs.Sizes.{InRange, page_bytes, list_bytes}
+use Rattle.layout.specs.Lent.{Fit}
+use Rattle.layout.proofs.Numbers.{kind-below}
 use Rattle.bytes_buffer.specs.declared.Spot.{Spot}
-use Rattle.bytes_key.specs.declared.Key.{Key}
 use Rattle.bytes_index.specs.Search.{Searched}
 use Rattle.bytes_index.specs.declared.Probe.TheVariants.{Free}
 use Rattle.bytes_dictionary.specs.Written.{lists_after, pages_with, lists_with}
@@ -34,6 +34,8 @@ use Rattle.memory.proofs.Entered.{enter_one, full-one, pageless-one, blockless-o
 use Rattle.plan.specs.declared.Plan.{Plan}
 use Rattle.plan.specs.Plans.{NoRoom, full, headless, pageless, blockless, ReadyName, PlanFits, Plans}
 use Rattle.plan_room.specs.Steps.{is_new, head_number, some_spot, HeadFits}
+use Rattle.names.specs.Given.{given}
+use Rattle.names.specs.declared.Name as Code
 use Rattle.commit.specs.declared.NewHead.{NewHead}
 use Rattle.commit.specs.Written.{number_in, place_in, name_pages, name_lists}
 use Rattle.enter.specs.Added.{CarriedOut, EntersName, AddsName}
@@ -158,7 +160,11 @@ module _ {s : Sizes} {st : State} {pages lists : Bytes} (S : Stands s st pages l
 
 -- ---- the promises
 
-module _ (s : Sizes) (pages lists : Bytes) (a : Name) where
+module _ (s : Sizes) (pages lists : Bytes) (name : Code.Name) where
+  -- The name that is added.
+  abbrev a : Name
+  a = given name
+
   -- A refusal of memory that is no dictionary's.
   pub never : (why : Refusal) → why ≡ Unopened → ((st : State) → Stands s st pages lists → checks s a ≡ none → ⊥) → AddsName s a pages lists (AddAnswer.refused why) pages lists
   never why e f = record { bounded = inl e; kept = λ n. (refl, refl); beyond = beyond-same s pages lists; whole = λ st S legal. absurd (f st S legal) }
@@ -171,13 +177,13 @@ module _ (s : Sizes) (pages lists : Bytes) (a : Name) where
       (subst (λ (x : Bytes). AddsName s a pages lists r₁ x lists') (sym p) (subst (AddsName s a pages lists r₁ pages₁) (sym l) h))
 
   -- A head's spot, if there is one.
-  head-beyond : (new : Bool) (o : Option Spot) (f hplace stamp : ℕ) (head : Bytes) → Lent s pages lists kinds a.kind → HeadFits s (length head) new o → f < s.e → hplace < 2 * s.e
+  head-beyond : (new : Bool) (o : Option Spot) (f hplace stamp : ℕ) (head : Bytes) → InRange s → Fit s pages lists → HeadFits s (length head) new o → f < s.e → hplace < 2 * s.e
       → SameBeyond s pages lists (pages_with s pages o head) (lists_with s lists (row a.kind).heads_at f hplace o stamp head)
-  head-beyond new (Some spot) f hplace stamp head L h fl hp =
-      insert-beyond s pages lists (row a.kind).heads_at f hplace spot stamp head L.ranged L.pages-fit L.lists-fit (head-below a.kind) fl hp h.1
-  head-beyond new None f hplace stamp head L h fl hp = beyond-same s pages lists
+  head-beyond new (Some spot) f hplace stamp head R L h fl hp =
+      insert-beyond s pages lists (row a.kind).heads_at f hplace spot stamp head R L.pages-fit L.lists-fit (head-below a.kind) fl hp h.1
+  head-beyond new None f hplace stamp head R L h fl hp = beyond-same s pages lists
 
-  module _ (L : Lent s pages lists kinds a.kind) (its_key : Key) (place : ℕ) (new_head : Option NewHead) (head key : Bytes) where
+  module _ (R : InRange s) (L : Fit s pages lists) (place : ℕ) (new_head : Option NewHead) (head key : Bytes) where
     abbrev new : Bool
     new = is_new (number_in new_head)
 
@@ -200,10 +206,10 @@ module _ (s : Sizes) (pages lists : Bytes) (a : Name) where
           let pages₁ : Bytes = pages_with s pages x.head head in
           let lists₁ : Bytes = lists_with s lists (row a.kind).heads_at f hplace x.head x.stamp head in
           let lists₂ : Bytes = lists_after s lists₁ (row a.kind).main_at x.n place x.spot x.stamp key in
-          let A = head-beyond _ x.head f hplace x.stamp head L F.head F.heads hp in
+          let A = head-beyond _ x.head f hplace x.stamp head R L F.head F.heads hp in
           let pages-fit : page_bytes s ≤ length pages₁ = omega (arith, A.pages-length, L.pages-fit) in
           let lists-fit : list_bytes s ≤ length lists₁ = omega (arith, A.lists_length, L.lists-fit) in
-          let B = insert-beyond s pages₁ lists₁ (row a.kind).main_at x.n place x.spot x.stamp key L.ranged pages-fit lists-fit (main-below a.kind) F.number
+          let B = insert-beyond s pages₁ lists₁ (row a.kind).main_at x.n place x.spot x.stamp key R pages-fit lists-fit (main-below a.kind) F.number
           searched.range
           F.room in
           let fit : list_bytes s ≤ length lists₂ = omega (arith, B.lists_length, lists-fit) in
@@ -211,7 +217,7 @@ module _ (s : Sizes) (pages lists : Bytes) (a : Name) where
             bounded = fresh-in-blocks s x.g x.n F.block;
             kept = λ g. absurd (g _ refl);
             beyond = beyond-trans s _ _ _ _ _ _ A
-                (beyond-trans s _ _ _ _ _ _ B (block-beyond s _ _ a.kind x.n x.g L.ranged fit L.known F.local F.block));
+                (beyond-trans s _ _ _ _ _ _ B (block-beyond s _ _ a.kind x.n x.g R fit (kind-below name.kind) F.local F.block));
             whole = λ st S legal. written S a legal place hplace new f head key (means st S legal) searched hsearched x F (H.right pages st S);
           }
 
@@ -228,12 +234,12 @@ module _ (s : Sizes) (pages lists : Bytes) (a : Name) where
           }
 
       pub adds : (r : AddAnswer) (pages' lists' : Bytes)
-          → EntersName s pages lists (record { k = a.kind; key = its_key; place = place; head = new_head }) head key r pages' lists'
+          → EntersName s pages lists (record { kind = name.kind; place = place; head = new_head }) head key r pages' lists'
           → AddsName s a pages lists r pages' lists'
       adds r pages' lists' E = go E.plan E.planned E.carried
         where
           go : (p : Result Plan Refusal) → Plans s lists a.kind new f (length head) (length key) p
-              → CarriedOut s pages lists (record { k = a.kind; key = its_key; place = place; head = new_head }) head key p r pages' lists'
+              → CarriedOut s pages lists (record { kind = name.kind; place = place; head = new_head }) head key p r pages' lists'
               → AddsName s a pages lists r pages' lists'
           go (Err why) H c = as-left c.0 c.1 c.2 (none-entered why H)
           go (Ok x) H c = as-left c.0 c.1 c.2 (fresh x H)

@@ -13,11 +13,11 @@ use Rattle.words.specs.Words.{word_at}
 use Rattle.refusals.specs.declared.Refusal.{Refusal}
 use Rattle.refusals.specs.declared.Refusal.TheVariants.{Unopened}
 use Rattle.layout.specs.declared.Sizes.{Sizes}
-use Rattle.layout.specs.Sizes.{kinds}
+use Rattle.layout.specs.Sizes.{InRange}
 use Rattle.layout.specs.Fields.{count_at}
-use Rattle.layout.specs.Lent.{Lent}
+use Rattle.layout.specs.Lent.{Fit}
+use Rattle.layout.proofs.Numbers.{kind-below}
 use Rattle.ranked_pair_dictionary.specs.FrequentId.{fid}
-use Rattle.bytes_key.specs.declared.Key.{Key}
 use Rattle.bytes_index.specs.declared.Probe.{Probe}
 use Rattle.bytes_index.specs.declared.Probe.TheVariants as P
 use Rattle.bytes_index.specs.Search.{Searched}
@@ -34,6 +34,8 @@ use Rattle.memory.proofs.Counts.{head-counted}
 use Rattle.memory.specs.Promises.{AddBounded}
 use Rattle.memory.proofs.Beyond.{beyond-same}
 use Rattle.memory.proofs.Entered.{known-one, key-new, head-missing}
+use Rattle.names.specs.Given.{given}
+use Rattle.names.specs.declared.Name as Code
 use Rattle.search.specs.declared.Sought.{Sought}
 use Rattle.search.specs.Found.{key_behind, KeyEnded, HeadEnded, EndedBy}
 use Rattle.search.proofs.Ends.{own_key, own_new, tells}
@@ -52,7 +54,11 @@ pub counted-head : (s : Sizes) (lists : Bytes) (k d : ℕ) (r : Result ℕ Refus
     → count_in s (head_word lists k) ≡ r
 counted-head s lists k d r q e = ap (λ (j : ℕ). count_in s (word_at lists (count_at j))) (sym q) ∙ sym e
 
-module _ (s : Sizes) (pages lists : Bytes) (a : Name) (L : Lent s pages lists kinds a.kind) (x : Sought) where
+module _ (s : Sizes) (pages lists : Bytes) (name : Code.Name) (x : Sought) where
+  -- The name that is added.
+  abbrev a : Name
+  a = given name
+
   -- ---- nothing is written
 
   -- The name is stored.
@@ -76,7 +82,7 @@ module _ (s : Sizes) (pages lists : Bytes) (a : Name) (L : Lent s pages lists ki
 
   -- The memory is no dictionary's.
   pub adds-bad : (why : Refusal) → EndedBy s pages lists a.kind ((row a.kind).head a) ((row a.kind).rest a) x (Err why) → AddsName s a pages lists (AddAnswer.refused why) pages lists
-  adds-bad why E = never s pages lists a why (ranged E) (λ st S legal. tells S a legal x (Err why) E)
+  adds-bad why E = never s pages lists name why (ranged E) (λ st S legal. tells S a legal x (Err why) E)
     where
       ranged : EndedBy s pages lists a.kind ((row a.kind).head a) ((row a.kind).rest a) x (Err why) → why ≡ Unopened
       ranged (inl H) = H.searched.range
@@ -85,16 +91,16 @@ module _ (s : Sizes) (pages lists : Bytes) (a : Name) (L : Lent s pages lists ki
   -- ---- the name is entered
 
   -- The head is stored, or the kind has none: one entry.
-  pub adds-key : (place : ℕ) (K : KeyEnded s pages lists a.kind ((row a.kind).head a) ((row a.kind).rest a) x (Ok (P.Free place))) (its_key : Key) (key : Bytes)
+  pub adds-key : (R : InRange s) (L : Fit s pages lists) (place : ℕ) (K : KeyEnded s pages lists a.kind ((row a.kind).head a) ((row a.kind).rest a) x (Ok (P.Free place))) (key : Bytes)
       → key_behind a.kind K.f ((row a.kind).rest a) ≡ key
       → (r : AddAnswer) (pages' lists' : Bytes)
-      → EntersName s pages lists (record { k = a.kind; key = its_key; place = place; head = None }) [] key r pages' lists'
+      → EntersName s pages lists (record { kind = name.kind; place = place; head = None }) [] key r pages' lists'
       → AddsName s a pages lists r pages' lists'
-  adds-key place K its_key key e =
-      adds s pages lists a L its_key place None [] key (omega (arith, L.ranged.e))
+  adds-key R L place K key e =
+      adds s pages lists name R L place None [] key (omega (arith, R.e))
       (subst (λ (y : Bytes). Searched s (row a.kind).main_at pages lists y (Ok (P.Free place))) e K.searched)
       (λ w. absurd (false≢true w))
-      (λ w. omega (arith, L.ranged.e))
+      (λ w. omega (arith, R.e))
       (λ st S legal.
       let o = own_key S a legal x (Ok (P.Free place)) K in
       record { new_is = o.0; headed = λ w. absurd (false≢true w); numbered = λ w. absurd (false≢true w); keyed = o.1 ∙ e })
@@ -103,14 +109,14 @@ module _ (s : Sizes) (pages lists : Bytes) (a : Name) (L : Lent s pages lists ki
   module _ (hplace : ℕ) (H : HeadEnded s pages lists a.kind ((row a.kind).head a) x (Ok (P.Free hplace))) where
     pub uncounted : (why : Refusal) → count_in s (head_word lists a.kind) ≡ Err why → AddsName s a pages lists (AddAnswer.refused why) pages lists
     uncounted why e =
-        never s pages lists a why (refused-count s (head_word lists a.kind) why e).0
+        never s pages lists name why (refused-count s (head_word lists a.kind) why e).0
         (λ st S legal.
-        let f : ◌≡◌ {A = Result ℕ Refusal} (Err why) (Ok (length (st.part a.kind).heads)) = sym e ∙ head-counted S a.kind L.known H.paired in cc)
+        let f : ◌≡◌ {A = Result ℕ Refusal} (Err why) (Ok (length (st.part a.kind).heads)) = sym e ∙ head-counted S a.kind (kind-below name.kind) H.paired in cc)
 
     module _ (f : ℕ) (counted : count_in s (head_word lists a.kind) ≡ Ok f) where
       heads-are : {st : State} → Stands s st pages lists → length (st.part a.kind).heads ≡ f
       heads-are {st} S =
-          let e : ◌≡◌ {A = Result ℕ Refusal} (Ok f) (Ok (length (st.part a.kind).heads)) = sym counted ∙ head-counted S a.kind L.known H.paired in cc
+          let e : ◌≡◌ {A = Result ℕ Refusal} (Ok f) (Ok (length (st.part a.kind).heads)) = sym counted ∙ head-counted S a.kind (kind-below name.kind) H.paired in cc
 
       key-is : {st : State} → Stands s st pages lists → checks s a ≡ none → key_of (st.part a.kind).heads a ≡ fid f ++ (row a.kind).rest a
       key-is S legal = key-new S a legal (own_new S a legal x hplace H) ∙ ap (λ (n : ℕ). fid n ++ (row a.kind).rest a) (heads-are S)
@@ -119,22 +125,22 @@ module _ (s : Sizes) (pages lists : Bytes) (a : Name) (L : Lent s pages lists ki
       pub occupied : (r : Probe) → ((j : ℕ) → r ≡ P.Free j → ⊥) → Searched s (row a.kind).main_at pages lists (fid f ++ (row a.kind).rest a) (Ok r)
           → AddsName s a pages lists (AddAnswer.refused Unopened) pages lists
       occupied (P.At i) t q =
-          never s pages lists a Unopened refl
+          never s pages lists name Unopened refl
           (λ st S legal.
           head-missing S a legal (own_new S a legal x hplace H) i (subst (λ (y : Bytes). Searched s (row a.kind).main_at pages lists y (Ok (P.At i))) (sym (key-is S legal)) q))
       occupied (P.Free j) t q = absurd (t j refl)
 
       pub unsearched : (why : Refusal) → Searched s (row a.kind).main_at pages lists (fid f ++ (row a.kind).rest a) (Err why)
           → AddsName s a pages lists (AddAnswer.refused why) pages lists
-      unsearched why q = never s pages lists a why q.range (λ st S legal. main-bad s st pages lists S a.kind L.known _ q)
+      unsearched why q = never s pages lists name why q.range (λ st S legal. main-bad s st pages lists S a.kind (kind-below name.kind) _ q)
 
-      pub adds-pair : (place : ℕ) (its_key : Key) (h : ℕ) (head key : Bytes) → (row a.kind).head a ≡ head → fid f ++ (row a.kind).rest a ≡ key
+      pub adds-pair : (R : InRange s) (L : Fit s pages lists) (place : ℕ) (h : ℕ) (head key : Bytes) → (row a.kind).head a ≡ head → fid f ++ (row a.kind).rest a ≡ key
           → Searched s (row a.kind).main_at pages lists (fid f ++ (row a.kind).rest a) (Ok (P.Free place))
           → (r : AddAnswer) (pages' lists' : Bytes)
-          → EntersName s pages lists (record { k = a.kind; key = its_key; place = place; head = Some (record { f = f; place = hplace; h = h }) }) head key r pages' lists'
+          → EntersName s pages lists (record { kind = name.kind; place = place; head = Some (record { f = f; place = hplace; h = h }) }) head key r pages' lists'
           → AddsName s a pages lists r pages' lists'
-      adds-pair place its_key h head key p e q =
-          adds s pages lists a L its_key place (Some (record { f = f; place = hplace; h = h })) head key H.searched.range
+      adds-pair R L place h head key p e q =
+          adds s pages lists name R L place (Some (record { f = f; place = hplace; h = h })) head key H.searched.range
           (subst (λ (y : Bytes). Searched s (row a.kind).main_at pages lists y (Ok (P.Free place))) e q)
           (λ w. subst (λ (y : Bytes). Searched s (row a.kind).heads_at pages lists y (Ok (P.Free hplace))) p H.searched)
           (λ w. absurd (false≢true (sym w)))

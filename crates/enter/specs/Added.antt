@@ -3,6 +3,7 @@ use Rattle.std.specs.Prelude.{ℕ, ◌+◌, ◌*◌, ◌%◌, ◌^◌, ◌≡◌
 use Rattle.std.proofs.Math.Option.{none}
 use Rattle.slices.specs.Bytes.{Bytes}
 use Rattle.layout.specs.declared.Sizes.{Sizes}
+use Rattle.layout.specs.Numbers.{kind_number}
 use Rattle.model.specs.Names.{Name}
 use Rattle.model.specs.Answers.{AddAnswer}
 use Rattle.model.specs.State.{State}
@@ -22,11 +23,11 @@ CarriedOut s pages lists w head key (Err why) r pages' lists' = (r ≡ AddAnswer
 CarriedOut s pages lists w head key (Ok x) r pages' lists' =
     (r ≡ AddAnswer.fresh (x.g * 2 ^ s.w + x.n % 2 ^ s.w))
     × (pages' ≡ name_pages s pages x head key)
-    × (lists' ≡ name_lists s lists w.k (head_number (head_of w)) (head_place w) w.place x head key)
+    × (lists' ≡ name_lists s lists (kind_number w.kind) (head_number (head_of w)) (head_place w) w.place x head key)
 
 pub record EntersName (s : Sizes) (pages lists : Bytes) (w : NewName) (head key : Bytes) (r : AddAnswer) (pages' lists' : Bytes) : Type 0 where
   pub plan : Result Plan Refusal
-  pub planned : Plans s lists w.k (is_new (head_of w)) (head_number (head_of w)) (length head) (length key) plan
+  pub planned : Plans s lists (kind_number w.kind) (is_new (head_of w)) (head_number (head_of w)) (length head) (length key) plan
   pub carried : CarriedOut s pages lists w head key plan r pages' lists'
 
 -- ---- the promise for a name

@@ -4,10 +4,11 @@
 ghost use Rattle.std.specs.Prelude.{◌≡◌, ◌*◌, ◌≤◌, ◌<◌, length};
 ghost use Rattle.std.proofs.Math.Option.{none};
 ghost use Rattle.fnv.specs.Fnv.{fnv_of};
-ghost use Rattle.layout.specs.Sizes.{kinds, page_size};
-ghost use Rattle.layout.specs.Lent.{Lent};
-ghost use Rattle.bytes_key.specs.Keys.{bytes_in, IsKey};
-ghost use Rattle.model.specs.Names.{entered};
+ghost use Rattle.layout.specs.Sizes.{page_size};
+ghost use Rattle.layout.specs.Numbers.{kind_number, dictionary_number};
+ghost use Rattle.layout.specs.Lent.{Fit};
+ghost use Rattle.bytes_key.specs.KeyBytes.{bytes_in};
+ghost use Rattle.names.specs.Given.{given};
 ghost use Rattle.model.specs.Kinds.{row};
 ghost use Rattle.model.specs.Steps.{shape_refusal};
 ghost use Rattle.search.specs.declared.Place.TheVariants as P;
@@ -17,10 +18,12 @@ ghost use Rattle.commit.specs.Written.{HeadReady};
 ghost use Rattle.enter.specs.Added.{EntersName, AddsName};
 
 use bytes_index::Probe;
-use bytes_key::Key;
+use bytes_key::{Key, Parts};
 use commit::{Added, NewHead, NewName};
-use layout::Sizes;
-use parts::Mode;
+use kind_table::Row;
+use layout::lent::{Layout, Lists, Memory};
+use names::Name;
+use parts::Part;
 use refusals::Refusal;
 use search::{Place, Sought};
 
@@ -28,127 +31,143 @@ use search::{Place, Sought};
 fn enter_name(
     pages: &mut [u8],
     lists: &mut [u8],
-    s: Sizes,
-    w: NewName,
+    layout: &Layout,
+    w: &NewName,
+    key: &Key<'_, '_>,
     head: &[u8],
-    front: &[u8],
-    rest: &[u8],
 ) -> Result<Added, Refusal>
-    requires lent { Lent s pages.old lists.old kinds w.k × HeadReady s head.now w.head × (w.place < 2 * s.e) × (w.key.d ≡ (row w.k).main_at) }
-    requires key { IsKey w.key front.now rest.now }
-    requires head_len_bound { (length head.now ≤ page_size s) × (length (bytes_in w.key front.now rest.now) ≤ page_size s) }
-    ensures { EntersName s pages.old lists.old w head.now (bytes_in w.key front.now rest.now) (added_by result) pages.new lists.new }
+    requires fit { Fit layout.now.sizes pages.old lists.old × HeadReady layout.now.sizes head.now w.now.head × (w.now.place < 2 * layout.now.sizes.e) }
+    requires dictionary { dictionary_number key.now.d ≡ (row (kind_number w.now.kind)).main_at }
+    requires head_len_bound { (length head.now ≤ page_size layout.now.sizes) × (length (bytes_in key.now) ≤ page_size layout.now.sizes) }
+    ensures { EntersName layout.now.sizes pages.old lists.old w.now head.now (bytes_in key.now) (added_by result) pages.new lists.new }
 {
-    let key = w.key;
-    let len = bytes_key::key_length(key, front, rest);
-    let newhead = w.head.map(|x| x.f);
-    let x = plan::plan_name(lists, s, w.k, newhead, head.len(), len)?;
-    let number = commit::commit(pages, lists, s, w, x, head, front, rest);
+    let len = key.parts.len();
+    let new_head = w.head.map(|x| x.f);
+    let lent = Lists {
+        layout: *layout,
+        bytes: lists,
+    };
+    let x = plan::plan_name(&lent, w.kind, new_head, head.len(), len)?;
+    let number = commit::commit(pages, lists, layout, w, &x, key, head);
     Ok(Added::Fresh(number))
 }
 
 // Adds a name whose head is stored, or whose kind has none (Nemo's add_str): one entry. The search for its key ended at `place`.
 #[inline(always)]
-fn add_str<'a>(
+fn add_str(
     pages: &mut [u8],
     lists: &mut [u8],
-    s: Sizes,
-    kind: usize,
-    first: &'a [u8],
-    second: &'a [u8],
+    layout: &Layout,
+    name: &Name<'_>,
     x: Sought,
     place: usize,
 ) -> Result<Added, Refusal>
-    requires lent { Lent s pages.old lists.old kinds kind × (shape_refusal s (entered kind first.now second.now) ≡ none) }
-    requires place_ended { PlaceEnded s pages.old lists.old (entered kind first.now second.now) x (P.Key place) }
-    ensures { AddsName s (entered kind first.now second.now) pages.old lists.old (added_by result) pages.new lists.new }
+    requires fit { Fit layout.now.sizes pages.old lists.old × (shape_refusal layout.now.sizes (given name.now) ≡ none) }
+    requires place_ended { PlaceEnded layout.now.sizes pages.old lists.old (given name.now) x (P.Key place) }
+    ensures { AddsName layout.now.sizes (given name.now) pages.old lists.old (added_by result) pages.new lists.new }
 {
-    let none = &first[..0];
-    let key = Key {
-        d: kind_table::main_dictionary(kind),
-        h: x.h,
-        front: kind_table::front_mode(kind),
-        rest: Mode::Raw,
-    };
+    let none = &name.first[..0];
+    let row = Row::of(name.kind);
     let w = NewName {
-        k: kind,
-        key,
+        kind: name.kind,
         place,
         head: None,
     };
-    if !kind_table::has_heads(kind) {
-        return enter_name(pages, lists, s, w, none, second, first);
+    if !row.has_heads() {
+        let key = Key {
+            d: row.main,
+            h: x.h,
+            parts: Parts {
+                front: Part {
+                    mode: row.front_mode(),
+                    bytes: name.second,
+                },
+                rest: Part::raw(name.first),
+            },
+        };
+        return enter_name(pages, lists, layout, &w, &key, none);
     }
-    let n = names::head_length(kind, first);
-    let rest = names::rest_behind(kind, first, second, n);
-    enter_name(pages, lists, s, w, none, x.lead.as_slice(), rest)
+    let key = Key {
+        d: row.main,
+        h: x.h,
+        parts: Parts {
+            front: Part::raw(x.lead.as_slice()),
+            rest: Part::raw(name.rest_behind(name.head_length())),
+        },
+    };
+    enter_name(pages, lists, layout, &w, &key, none)
 }
 
-// Adds a name whose head is not stored (Nemo's add_pair): the head and its pair. The search for the head ended at `headplace`. The head's number is how many
+// Adds a name whose head is not stored (Nemo's add_pair): the head and its pair. The search for the head ended at `head_place`. The head's number is how many
 // heads there were.
-// Kept: two functions. Their parameters are alike, but `add_str` stores one entry and this stores two.
+// Kept: two functions. Their parameters are alike, but `add_str` stores one entry and this stores two, so one function for both is no plainer.
 #[inline(always)]
-fn add_pair<'a>(
+fn add_pair(
     pages: &mut [u8],
     lists: &mut [u8],
-    s: Sizes,
-    kind: usize,
-    first: &'a [u8],
-    second: &'a [u8],
+    layout: &Layout,
+    name: &Name<'_>,
     x: Sought,
-    headplace: usize,
+    head_place: usize,
 ) -> Result<Added, Refusal>
-    requires lent { Lent s pages.old lists.old kinds kind × (shape_refusal s (entered kind first.now second.now) ≡ none) }
-    requires place_ended { PlaceEnded s pages.old lists.old (entered kind first.now second.now) x (P.Head headplace) }
-    ensures { AddsName s (entered kind first.now second.now) pages.old lists.old (added_by result) pages.new lists.new }
+    requires fit { Fit layout.now.sizes pages.old lists.old × (shape_refusal layout.now.sizes (given name.now) ≡ none) }
+    requires place_ended { PlaceEnded layout.now.sizes pages.old lists.old (given name.now) x (P.Head head_place) }
+    ensures { AddsName layout.now.sizes (given name.now) pages.old lists.old (added_by result) pages.new lists.new }
 {
-    let f = bytes_dictionary::count(lists, s, kind_table::head_dictionary(kind))?;
-    let n = names::head_length(kind, first);
-    let rest = names::rest_behind(kind, first, second, n);
+    let row = Row::of(name.kind);
+    let memory = Memory {
+        lists: Lists {
+            layout: *layout,
+            bytes: lists,
+        },
+        pages,
+    };
+    let f = bytes_dictionary::count(&memory.lists, row.heads)?;
+    let n = name.head_length();
+    let rest = name.rest_behind(n);
     let lead = ranked_pair_dictionary::lead_of(f);
     let key = Key {
-        d: kind_table::main_dictionary(kind),
+        d: row.main,
         h: fnv::fnv_from(fnv::fnv(lead.as_slice()), rest),
-        front: Mode::Raw,
-        rest: Mode::Raw,
+        parts: Parts {
+            front: Part::raw(lead.as_slice()),
+            rest: Part::raw(rest),
+        },
     };
-    let Probe::Free(place) = bytes_index::bytes_to_id(pages, lists, s, key, lead.as_slice(), rest)?
-    else {
+    let Probe::Free(place) = bytes_index::bytes_to_id(&memory, &key)? else {
         return Err(Refusal::Unopened);
     };
-    let newhead = NewHead {
+    let new_head = NewHead {
         f,
-        place: headplace,
-        h: x.headhash,
+        place: head_place,
+        h: x.head_hash,
     };
     let w = NewName {
-        k: kind,
-        key,
+        kind: name.kind,
         place,
-        head: Some(newhead),
+        head: Some(new_head),
     };
-    enter_name(pages, lists, s, w, &first[..n], lead.as_slice(), rest)
+    enter_name(pages, lists, layout, &w, &key, &name.first[..n])
 }
 
 // Adds a name that is legal and not stored. The search for it ended at `place`.
 // This function and the two above are merged into their caller: one frame for all of them keeps an add under 1 KiB of stack.
 #[inline(always)]
-pub fn add_name<'a>(
+pub fn add_name(
     pages: &mut [u8],
     lists: &mut [u8],
-    s: Sizes,
-    kind: usize,
-    first: &'a [u8],
-    second: &'a [u8],
+    layout: &Layout,
+    name: &Name<'_>,
     x: Sought,
     place: Place,
 ) -> Result<Added, Refusal>
-    requires lent { Lent s pages.old lists.old kinds kind × (shape_refusal s (entered kind first.now second.now) ≡ none) }
-    requires place_ended { PlaceEnded s pages.old lists.old (entered kind first.now second.now) x place }
-    ensures { AddsName s (entered kind first.now second.now) pages.old lists.old (added_by result) pages.new lists.new }
+    requires fit { Fit layout.now.sizes pages.old lists.old × (shape_refusal layout.now.sizes (given name.now) ≡ none) }
+    requires place_ended { PlaceEnded layout.now.sizes pages.old lists.old (given name.now) x place }
+    ensures { AddsName layout.now.sizes (given name.now) pages.old lists.old (added_by result) pages.new lists.new }
 {
+    // Kept: a match. Each case carries the place that it needs.
     match place {
-        Place::Key(j) => add_str(pages, lists, s, kind, first, second, x, j),
-        Place::Head(j) => add_pair(pages, lists, s, kind, first, second, x, j),
+        Place::Key(j) => add_str(pages, lists, layout, name, x, j),
+        Place::Head(j) => add_pair(pages, lists, layout, name, x, j),
     }
 }

@@ -2,20 +2,20 @@
 #![tactic(auto)]
 
 ghost use Rattle.std.specs.Prelude.{◌≡◌, ◌≤◌, length};
-ghost use Rattle.layout.specs.Sizes.{InRange, list_bytes};
-ghost use Rattle.header.specs.Header.{header_of};
+ghost use Rattle.layout.specs.Sizes.{list_bytes};
+ghost use Rattle.header.specs.Header.{header_of, sized};
 ghost use Rattle.header.specs.Opened.{opened_lists};
 
-use layout::Sizes;
+use layout::lent::Layout;
 use refusals::Refusal;
 use words::WORD;
 
 // "namedic2", low byte first: the first word of every dictionary's `lists`.
 const FORMAT: usize = 0x32636964656D616E;
 
-// The sizes of a dictionary's memory. Unopened: the memory is no dictionary's.
-pub fn check_header(pages: &[u8], lists: &[u8]) -> Result<Sizes, Refusal>
-    ensures { result ≡ header_of (length pages.now) lists.now }
+// The layout of a dictionary's memory. Unopened: the memory is no dictionary's.
+pub fn check_header(pages: &[u8], lists: &[u8]) -> Result<Layout, Refusal>
+    ensures { sized result ≡ header_of (length pages.now) lists.now }
 {
     if lists.len() < 512 {
         return Err(Refusal::Unopened);
@@ -23,30 +23,31 @@ pub fn check_header(pages: &[u8], lists: &[u8]) -> Result<Sizes, Refusal>
     if words::number_at::<WORD>(lists, 0) != FORMAT {
         return Err(Refusal::Unopened);
     }
-    let made = Sizes::new(
+    let made = Layout::new(
         words::number_at::<WORD>(lists, 1),
         words::number_at::<WORD>(lists, 2),
         words::number_at::<WORD>(lists, 3),
         words::number_at::<WORD>(lists, 4),
         words::number_at::<WORD>(lists, 5),
     );
-    let s = made.ok_or(Refusal::Unopened)?;
-    if pages.len() < layout::page_bytes(s) {
+    let layout = made.ok_or(Refusal::Unopened)?;
+    if pages.len() < layout.page_bytes() {
         return Err(Refusal::Unopened);
     }
-    if lists.len() < layout::list_bytes(s) {
+    if lists.len() < layout.list_bytes() {
         return Err(Refusal::Unopened);
     }
-    Ok(s)
+    Ok(layout)
 }
 
 // Makes `lists` the memory of a dictionary with no entry.
 #[tactic(auto, using(crate::proofs::Opening::least))]
-pub fn init(lists: &mut [u8], s: Sizes)
-    requires { InRange s × (list_bytes s ≤ length lists.old) }
-    ensures { lists.new ≡ opened_lists s lists.old }
+pub fn init(lists: &mut [u8], layout: &Layout)
+    requires { list_bytes layout.now.sizes ≤ length lists.old }
+    ensures { lists.new ≡ opened_lists layout.now.sizes lists.old }
 {
-    let n = layout::list_bytes(s);
+    let s = layout.sizes;
+    let n = layout.list_bytes();
     lists[..n].fill(0);
     words::put_number::<WORD>(lists, 0, FORMAT);
     words::put_number::<WORD>(lists, 1, s.p);

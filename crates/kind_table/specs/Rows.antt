@@ -1,5 +1,6 @@
 -- The code's table of kinds: its rows are those of the model's table, and what a way says of the parts. Assumes nothing.
 use Rattle.std.specs.Prelude.{◌≡◌, Bool, true, false}
+use Rattle.layout.specs.Numbers.{dictionary_number}
 use Rattle.parts.specs.declared.Mode.{Mode}
 use Rattle.parts.specs.declared.Mode.TheVariants.{Raw, Tag}
 use Rattle.model.specs.Kinds.{Way, splits, whole, packs, pairs, Kind}
@@ -18,8 +19,8 @@ way_of Ways.Pairs = pairs
 pub record IsRow (x : Kind) (r : Held.Row) : Type 0 where
   pub no_second : r.no_second ≡ x.no_second
   pub needs_tag : r.needs_tag ≡ x.needs_tag
-  pub heads_at : r.heads ≡ x.heads_at
-  pub main_at : r.main ≡ x.main_at
+  pub heads_at : dictionary_number r.heads ≡ x.heads_at
+  pub main_at : dictionary_number r.main ≡ x.main_at
   pub way : way_of r.way ≡ x.way
 
 -- Does the first part split into head and rest?

@@ -1,18 +1,13 @@
-// The code's table of kinds: the row of each kind, and what is asked of it.
+// The code's table of kinds: the row of each kind, and what it says.
 #![tactic(auto)]
 
-ghost use Rattle.std.specs.Prelude.{◌≡◌, ◌<◌};
-ghost use Rattle.layout.specs.Sizes.{dictionaries};
-ghost use Rattle.model.specs.Kinds.{row};
-ghost use Rattle.kind_table.specs.Rows.{IsRow, is_split, front_mode};
+ghost use Rattle.std.specs.Prelude.{◌≡◌};
+ghost use Rattle.layout.specs.Numbers.{kind_number};
+ghost use Rattle.model.specs.Kinds.{row, has_heads};
+ghost use Rattle.kind_table.specs.Rows.{IsRow, way_of, is_split, front_mode};
 
+use layout::{Dictionary, Kind};
 use parts::Mode;
-
-pub const IRI: usize = 0;
-
-pub const TAGGED: usize = 2;
-
-pub const TYPED: usize = 3;
 
 // How the parts of a name become entries: the ways of model/specs/Kinds.antt.
 #[derive(Clone, Copy)]
@@ -24,86 +19,75 @@ pub enum Way {
 }
 
 // What the table says of a kind: must it have no second part, must it have a tag, the dictionaries of its heads and of its names, its way.
-// Kept: two flags. Each is a column of the table, and no value goes with it.
+// Kept: two flags. They are the columns of the model's table, one for each rule of document 01.
 #[derive(Clone, Copy)]
 pub struct Row {
     pub no_second: bool,
     pub needs_tag: bool,
-    pub heads: usize,
-    pub main: usize,
+    pub heads: Dictionary,
+    pub main: Dictionary,
     pub way: Way,
 }
 
-// The table of kinds. No other code lists them. The last row is that of the plain strings; a number that is no kind gets it too.
-pub fn row_of(kind: usize) -> Row
-    ensures { IsRow (row kind) result }
-{
-    match kind {
-        IRI => Row {
-            no_second: true,
-            needs_tag: false,
-            heads: 0,
-            main: 1,
-            way: Way::Splits,
-        },
-        TAGGED => Row {
-            no_second: false,
-            needs_tag: true,
-            heads: 3,
-            main: 3,
-            way: Way::Packs,
-        },
-        TYPED => Row {
-            no_second: false,
-            needs_tag: false,
-            heads: 4,
-            main: 5,
-            way: Way::Pairs,
-        },
-        _ => Row {
-            no_second: true,
-            needs_tag: false,
-            heads: 2,
-            main: 2,
-            way: Way::Whole,
-        },
+impl Row {
+    // The table of kinds. No other code says what a kind is like.
+    // Kept: a match. It is the table itself, and an array looked up by the kind is no plainer.
+    pub fn of(kind: Kind) -> Row
+        ensures { IsRow (row (kind_number kind)) result }
+    {
+        match kind {
+            Kind::Iri => Row {
+                no_second: true,
+                needs_tag: false,
+                heads: Dictionary::IriHeads,
+                main: Dictionary::Iris,
+                way: Way::Splits,
+            },
+            Kind::Plain => Row {
+                no_second: true,
+                needs_tag: false,
+                heads: Dictionary::PlainStrings,
+                main: Dictionary::PlainStrings,
+                way: Way::Whole,
+            },
+            Kind::Tagged => Row {
+                no_second: false,
+                needs_tag: true,
+                heads: Dictionary::TaggedStrings,
+                main: Dictionary::TaggedStrings,
+                way: Way::Packs,
+            },
+            Kind::Typed => Row {
+                no_second: false,
+                needs_tag: false,
+                heads: Dictionary::TypedHeads,
+                main: Dictionary::TypedValues,
+                way: Way::Pairs,
+            },
+        }
     }
-}
 
-// The dictionary of a kind's names.
-pub fn main_dictionary(kind: usize) -> usize
-    ensures { (result ≡ (row kind).main_at) × (result < dictionaries) }
-{
-    row_of(kind).main
-}
+    // Does the first part of the kind's names split into head and rest?
+    pub fn is_split(self) -> bool
+        ensures { result ≡ is_split (way_of self.way) }
+    {
+        matches!(self.way, Way::Splits)
+    }
 
-// The dictionary of a kind's heads, if it has heads.
-pub fn head_dictionary(kind: usize) -> usize
-    ensures { (result ≡ (row kind).heads_at) × (result < dictionaries) }
-{
-    row_of(kind).heads
-}
+    // Do the kind's names have heads?
+    pub fn has_heads(self) -> bool
+        ensures { result ≡ has_heads (way_of self.way) }
+    {
+        matches!(self.way, Way::Splits | Way::Pairs)
+    }
 
-// Does the first part of the kind's names split into head and rest?
-pub fn is_split(kind: usize) -> bool
-    ensures { result ≡ is_split (row kind).way }
-{
-    matches!(row_of(kind).way, Way::Splits)
-}
-
-// Do the kind's names have heads?
-pub fn has_heads(kind: usize) -> bool
-    ensures { result ≡ (row kind).paired }
-{
-    matches!(row_of(kind).way, Way::Splits | Way::Pairs)
-}
-
-// How the second part of a kind without heads is stored in front of the first: a tag in its form. A plain string has none.
-pub fn front_mode(kind: usize) -> Mode
-    ensures { result ≡ front_mode (row kind).way }
-{
-    match row_of(kind).way {
-        Way::Packs => Mode::Tag,
-        Way::Splits | Way::Whole | Way::Pairs => Mode::Raw,
+    // How the second part of a kind without heads is stored in front of the first: a tag in its form. A plain string has none.
+    pub fn front_mode(self) -> Mode
+        ensures { result ≡ front_mode (way_of self.way) }
+    {
+        match self.way {
+            Way::Packs => Mode::Tag,
+            Way::Splits | Way::Whole | Way::Pairs => Mode::Raw,
+        }
     }
 }

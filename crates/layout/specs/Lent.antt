@@ -1,12 +1,10 @@
 -- Slices that are long enough for the sizes. Assumes nothing.
-use Rattle.std.specs.Prelude.{ℕ, ◌<◌, ◌≤◌, length}
+use Rattle.std.specs.Prelude.{◌≤◌, length}
 use Rattle.slices.specs.Bytes.{Bytes}
 use Rattle.layout.specs.declared.Sizes.{Sizes}
-use Rattle.layout.specs.Sizes.{InRange, page_bytes, list_bytes}
+use Rattle.layout.specs.Sizes.{page_bytes, list_bytes}
 
--- Sizes in their ranges, slices long enough for them, and a number i below `most`. A kind is below `kinds`, a dictionary below `dictionaries`.
-pub record Lent (s : Sizes) (pages lists : Bytes) (most i : ℕ) : Type 0 where
-  pub ranged : InRange s
+-- What a writer asks of the two slices that it is lent.
+pub record Fit (s : Sizes) (pages lists : Bytes) : Type 0 where
   pub pages-fit : page_bytes s ≤ length pages
   pub lists-fit : list_bytes s ≤ length lists
-  pub known : i < most

@@ -2,3 +2,5 @@
 pub mod Sizes
 pub mod Fields
 pub mod Lent
+pub mod Numbers
+pub mod Laid

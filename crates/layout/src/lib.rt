@@ -1,14 +1,76 @@
-// The sizes of a dictionary's memory with their limits, and where each field of `lists` lies.
+// The sizes of a dictionary's memory with their limits, its kinds and dictionaries, and the words of `lists`.
 #![tactic(auto)]
 
-ghost use Rattle.std.specs.Prelude.{◌≡◌, ◌≤◌};
-ghost use Rattle.layout.specs.Sizes.{InRange, within, made, limit, kinds, dictionaries, page_size, page_bytes, list_bytes};
-ghost use Rattle.layout.specs.Fields.{dict_at, blocks_at};
+pub mod lent;
+
+ghost use Rattle.std.specs.Prelude.{◌≡◌, ◌<◌};
+ghost use Rattle.layout.specs.Sizes.{within, made, limit, kinds, dictionaries};
+ghost use Rattle.layout.specs.Numbers.{kind_number, kind_by, dictionary_number};
 
 // How many kinds of names and how many dictionaries there are.
 pub const KINDS: usize = 4;
 
 pub const DICTIONARIES: usize = 6;
+
+// The kinds of names, kind 0 first.
+#[derive(Clone, Copy, Debug, PartialEq, Eq)]
+pub enum Kind {
+    Iri,
+    Plain,
+    Tagged,
+    Typed,
+}
+
+impl Kind {
+    pub const ALL: [Kind; KINDS] = [Kind::Iri, Kind::Plain, Kind::Tagged, Kind::Typed];
+}
+
+impl From<Kind> for usize {
+    ghost from_gives = { λ kind n. (n ≡ kind_number kind) × (n < kinds) };
+
+    fn from(kind: Kind) -> usize {
+        kind as usize
+    }
+}
+
+// A number that is no kind's.
+#[derive(Clone, Copy, Debug, PartialEq, Eq)]
+pub struct UnknownKind(pub usize);
+
+impl TryFrom<usize> for Kind {
+    type Error = UnknownKind;
+
+    ghost try_from_gives = { λ number r. r ≡ kind_by number };
+
+    fn try_from(number: usize) -> Result<Kind, UnknownKind> {
+        match number {
+            0 => Ok(Kind::Iri),
+            1 => Ok(Kind::Plain),
+            2 => Ok(Kind::Tagged),
+            3 => Ok(Kind::Typed),
+            _ => Err(UnknownKind(number)),
+        }
+    }
+}
+
+// The dictionaries, dictionary 0 first: those of the heads and of the names of each kind. A plain string and a tagged string have no heads.
+#[derive(Clone, Copy, Debug, PartialEq, Eq)]
+pub enum Dictionary {
+    IriHeads,
+    Iris,
+    PlainStrings,
+    TaggedStrings,
+    TypedHeads,
+    TypedValues,
+}
+
+impl From<Dictionary> for usize {
+    ghost from_gives = { λ d n. (n ≡ dictionary_number d) × (n < dictionaries) };
+
+    fn from(d: Dictionary) -> usize {
+        d as usize
+    }
+}
 
 // Words of `lists`, by their index; specs/Fields.antt has the whole table. UNTAKEN is the lowest untaken page. COUNT, CURRENT and TAKEN are of
 // dictionary 0: its count of entries, its current page + 1, its count of pages. Those of the next dictionary are STRIDE words on. PAGES is page 0.
@@ -23,11 +85,6 @@ pub const TAKEN: usize = 18;
 pub const STRIDE: usize = 4;
 
 pub const PAGES: usize = 64;
-
-// Every dictionary has three words for each entry number. Every kind has one word for each block, and the global blocks have one each.
-const ENTRY_WORDS: usize = 3 * DICTIONARIES;
-
-const BLOCK_WORDS: usize = KINDS + 1;
 
 // Several numbers in one word. A page: its owner below OWNERS, then its used bytes below OFFSETS, then its position from POSITION up.
 // An entry: its page below PAGE_NUMBERS, then its offset below OFFSETS, then its length from LENGTH up. A block: 1 + its kind below OWNERS, then its local block.
@@ -107,45 +164,4 @@ impl Sizes {
     {
         Sizes::NAME_LIMIT
     }
-}
-
-// How many bytes a page has.
-pub fn page_size(s: Sizes) -> usize
-    requires { InRange s }
-    ensures { result ≡ page_size s }
-{
-    let p = s.p;
-    1 << p
-}
-
-// How many bytes `pages` needs.
-pub fn page_bytes(s: Sizes) -> usize
-    requires { InRange s }
-    ensures { result ≡ page_bytes s }
-{
-    s.n * page_size(s)
-}
-
-// How many bytes `lists` needs.
-pub fn list_bytes(s: Sizes) -> usize
-    requires { InRange s }
-    ensures { result ≡ list_bytes s }
-{
-    8 * (PAGES + s.n + ENTRY_WORDS * s.e + BLOCK_WORDS * s.b)
-}
-
-// The first word of dictionary d. The blocks' words follow those of the last dictionary.
-pub fn dict_at(s: Sizes, d: usize) -> usize
-    requires { InRange s × (d ≤ dictionaries) }
-    ensures { result ≡ dict_at s d }
-{
-    PAGES + s.n + d * (3 * s.e)
-}
-
-// The first word of kind k's local blocks. The global blocks' words follow those of the last kind.
-pub fn blocks_at(s: Sizes, k: usize) -> usize
-    requires { InRange s × (k ≤ kinds) }
-    ensures { result ≡ blocks_at s k }
-{
-    PAGES + s.n + ENTRY_WORDS * s.e + k * s.b
 }

@@ -50,6 +50,7 @@ pub fn head_number(answer: Option<usize>) -> u64
     answer.unwrap_or(0) as u64
 }
 
+// Kept: three bodies of one shape here, and one in `numbers`. Each fills fields with other names, which are the C interface.
 impl From<Result<usize, Refusal>> for NamedictWritten {
     ghost from_gives = { λ answer r. r ≡ written_numbers answer };
 

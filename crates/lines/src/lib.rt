@@ -5,6 +5,7 @@ ghost use Rattle.std.specs.Prelude.{◌≡◌, ◌≢◌, ◌+◌, ◌-◌, ◌<
 ghost use Rattle.std.specs.List.{All};
 
 // Where the first mark stands, from i on; the length if none is there.
+// Kept: an index beside the slice, here and below. Each is asked at one or two places, which go on with the index.
 pub fn end_of(s: &[u8], i: usize, mark: u8) -> usize
     requires { i ≤ length s.now }
     ensures within { (i ≤ result) × (result ≤ length s.now) }

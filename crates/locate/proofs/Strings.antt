@@ -1,5 +1,5 @@
 -- An entry that is a first part, or a packed text and tag. Assumes nothing.
-use Prim.Native.Nat.{ℕ, ◌+◌, ◌-◌, ◌≤◌, ◌<◌}
+use Prim.Native.Nat.{ℕ, ◌+◌, ◌-◌, ◌≤◌}
 use mathlib.Core.Path.{◌≡◌, refl, sym, ap, ◌∙◌}
 use mathlib.Core.Bool.{Bool, true, false}
 use mathlib.Core.List.{List, []}
@@ -20,7 +20,9 @@ use Rattle.string_dv_dict.proofs.Laws.{is-legal}
 use Rattle.string_dv_dict_split.proofs.Laws.{pack-unpack}
 use Rattle.string_dv_dict_split.proofs.PackedParts.{split_parts, short-length, long-low}
 use Rattle.layout.specs.declared.Sizes.{Sizes}
-use Rattle.layout.specs.Sizes.{kinds, page_bytes}
+use Rattle.layout.specs.Sizes.{page_bytes}
+use Rattle.layout.specs.Numbers.{kind_number}
+use Rattle.layout.specs.declared.Kind.{Kind}
 use Rattle.model.specs.Names.{Name}
 use Rattle.model.specs.Kinds.{whole, packs, row}
 use Rattle.model.specs.Steps.{checks, key_of}
@@ -57,9 +59,9 @@ lies-within pages at len fits L = omega (arith, L.within, length_cut pages at le
 
 -- ---- the names
 
-module _ (s : Sizes) (pages lists : Bytes) (k at len : ℕ) (known : k < kinds) (there : page_bytes s ≤ length pages) (fits : at + len ≤ page_bytes s) where
-  pub located-plain : (row k).way ≡ whole → LocatesEntry s pages lists k at len (Ok (record {
-    kind = k;
+module _ (s : Sizes) (pages lists : Bytes) (kind : Kind) (at len : ℕ) (there : page_bytes s ≤ length pages) (fits : at + len ≤ page_bytes s) where
+  pub located-plain : (row (kind_number kind)).way ≡ whole → LocatesEntry s pages lists (kind_number kind) at len (Ok (record {
+    kind = kind;
     first = len;
     second = 0;
     front = record { at = at; len = len };
@@ -71,7 +73,6 @@ module _ (s : Sizes) (pages lists : Bytes) (k at len : ℕ) (known : k < kinds) 
       let l : length (take len (drop at pages)) ≡ len = length_cut pages at len (omega arith) in
       record {
         range = record {
-          kinded = known;
           front = fits;
           back = omega arith;
           lengths = simp length-append (omega (arith, l));
@@ -85,18 +86,18 @@ module _ (s : Sizes) (pages lists : Bytes) (k at len : ℕ) (known : k < kinds) 
       }
 
   -- What the form of a name unpacks to.
-  unpacks : (row k).way ≡ packs → (a : Name) (hs : List Bytes) → checks s a ≡ none → a.kind ≡ k → take len (drop at pages) ≡ key_of hs a
+  unpacks : (row (kind_number kind)).way ≡ packs → (a : Name) (hs : List Bytes) → checks s a ≡ none → a.kind ≡ kind_number kind → take len (drop at pages) ≡ key_of hs a
       → (accepted (take len (drop at pages)) ≡ true) × (text_in (take len (drop at pages)) ≡ a.first) × (tag_in (take len (drop at pages)) ≡ a.second)
   unpacks w a hs p q h =
       let v : (row a.kind).way ≡ packs = ap (λ (j : ℕ). (row j).way) q ∙ w in
       let b : take len (drop at pages) ≡ packed a.first a.second = rw v at h in
       rw b (pack-unpack a.first a.second (is-legal a.first a.second (legal-pair s a p (needs-tag a.kind (ap packs_tag v)))))
 
-  pub located-cut : (row k).way ≡ packs → split_of (take len (drop at pages)) ≡ None → LocatesEntry s pages lists k at len (Err Unopened)
-  located-cut w e = record { range = refl; right = λ st a S p q old h. clash (unpacks w a (st.part k).heads p q h).0 (split_parts _ None e) }
+  pub located-cut : (row (kind_number kind)).way ≡ packs → split_of (take len (drop at pages)) ≡ None → LocatesEntry s pages lists (kind_number kind) at len (Err Unopened)
+  located-cut w e = record { range = refl; right = λ st a S p q old h. clash (unpacks w a (st.part (kind_number kind)).heads p q h).0 (split_parts _ None e) }
 
-  pub located-tagged : (row k).way ≡ packs → (before stored tag : ℕ) (escaped : Bool) → Lies (take len (drop at pages)) before stored tag escaped
-      → LocatesEntry s pages lists k at len (Ok (tagged_pieces k (record { at = at; len = len }) before stored tag escaped))
+  pub located-tagged : (row (kind_number kind)).way ≡ packs → (before stored tag : ℕ) (escaped : Bool) → Lies (take len (drop at pages)) before stored tag escaped
+      → LocatesEntry s pages lists (kind_number kind) at len (Ok (tagged_pieces kind (record { at = at; len = len }) before stored tag escaped))
   unfolding pieces_in
   located-tagged w before stored tag escaped L =
       let inner : before ≤ len = lies-within pages at len (omega arith) L in
@@ -106,14 +107,13 @@ module _ (s : Sizes) (pages lists : Bytes) (k at len : ℕ) (known : k < kinds) 
       let lt : length (unescaped_if escaped (take stored (drop (at + 1) pages))) ≡ tag = ap length g ∙ L.size in
       record {
         range = record {
-          kinded = known;
           front = omega arith;
           back = omega (arith, L.inside);
           lengths = simp length-append (omega (arith, lf, lt));
           small = omega (arith, L.inside, L.small);
         };
         right = λ st a St p q old h.
-            let u = unpacks w a (st.part k).heads p q h in
+            let u = unpacks w a (st.part (kind_number kind)).heads p q h in
             let f : take (len - before) (drop (at + before) pages) ≡ a.first = cut-behind pages at len (omega arith) before inner ∙ sym L.text ∙ u.1 in
             let b : unescaped_if escaped (take stored (drop (at + 1) pages)) ≡ a.second = g ∙ u.2 in
             record { kind = sym q; first = sym lf ∙ ap length f; second = sym lt ∙ ap length b; bytes = rw (f, b) };

@@ -5,7 +5,9 @@ use Rattle.std.proofs.Math.Option.{Option, none, some}
 use Rattle.slices.specs.Bytes.{Bytes}
 use Rattle.string_dv_dict_split.specs.Forms.{unescaped}
 use Rattle.layout.specs.declared.Sizes.{Sizes}
-use Rattle.layout.specs.Sizes.{kinds, page_bytes}
+use Rattle.layout.specs.Sizes.{page_bytes}
+use Rattle.layout.specs.Numbers.{kind_number}
+use Rattle.layout.specs.declared.Kind.{Kind}
 use Rattle.model.specs.Names.{Name}
 use Rattle.model.specs.State.{State, name_of}
 use Rattle.model.specs.Steps.{checks, new_head, key_of}
@@ -32,7 +34,6 @@ pub record Copyable (pages : Bytes) (x : Pieces) : Type 0 where
 
 -- What holds on any memory: the pieces lie in the bytes of the pages that the sizes need, and are as long as both parts together.
 pub record Within (s : Sizes) (pages : Bytes) (x : Pieces) : Type 0 where
-  pub kinded : x.kind < kinds
   pub front : x.front.at + x.front.len ≤ page_bytes s
   pub back : x.back.at + x.back.len ≤ page_bytes s
   pub lengths : length (pieces_in pages x) ≡ x.first + x.second
@@ -49,7 +50,7 @@ Bounded s pages (Err why) = why ≡ Unopened
 
 -- The pieces are the name's parts.
 pub record Are (pages : Bytes) (a : Name) (x : Pieces) : Type 0 where
-  pub kind : x.kind ≡ a.kind
+  pub kind : kind_number x.kind ≡ a.kind
   pub first : x.first ≡ length a.first
   pub second : x.second ≡ length a.second
   pub bytes : pieces_in pages x ≡ a.first ++ a.second
@@ -68,7 +69,7 @@ located (Ok x) = Ok (Some x)
 located (Err why) = Err why
 
 -- The pieces of a tagged string: its text behind `before` bytes of the entry, its tag in `stored` bytes behind the first one.
-abbrev pub tagged_pieces : ℕ → Span → ℕ → ℕ → ℕ → Bool → Pieces
+abbrev pub tagged_pieces : Kind → Span → ℕ → ℕ → ℕ → Bool → Pieces
 tagged_pieces k entry before stored tag escaped =
     record {
       kind = k;

@@ -4,14 +4,16 @@
 ghost use Rattle.std.specs.Prelude.{◌≡◌, true, ◌++◌, ◌+◌, ◌^◌, ◌≤◌, ◌<◌, length, drop, Ok};
 ghost use Rattle.std.proofs.lemmas.List.Edits.{sets};
 ghost use Rattle.slices.specs.Bytes.{Bytes};
-ghost use Rattle.layout.specs.Sizes.{InRange, kinds, page_bytes, list_bytes};
+ghost use Rattle.layout.specs.Sizes.{page_bytes};
+ghost use Rattle.layout.specs.Numbers.{kind_number};
 ghost use Rattle.model.specs.Kinds.{whole, packs, row};
 ghost use Rattle.locate.specs.Located.{unescaped_if, tagged_pieces, pieces_in, Copyable, LocatesEntry, LocatesAlone, LocatesName};
 
 use bytes_dictionary::EntryId;
 use bytes_index::Span;
-use kind_table::Way;
-use layout::Sizes;
+use kind_table::{Row, Way};
+use layout::Kind;
+use layout::lent::Memory;
 use meta_dv_dict::{GlobalId, Owner};
 use parts::Part;
 use ranked_pair_dictionary::FrequentId;
@@ -20,10 +22,10 @@ use string_dv_dict_split::Form;
 
 // A name in the pages: its kind, the lengths of its parts, and two pieces whose bytes are the first part, then the second. An IRI and a typed value have head
 // and rest as pieces, a plain string has itself and nothing, a tagged string has text and tag. A long tag is escaped.
-// Kept: `escaped` is a flag. It says how the second piece is read, and no value goes with it.
+// Kept: `escaped` is a flag. It says how the second piece is read, whichever lengths it has, so an enum around that piece would be taken apart at each use.
 #[derive(Clone, Copy)]
 pub struct Pieces {
-    pub kind: usize,
+    pub kind: Kind,
     pub first: usize,
     pub second: usize,
     pub front: Span,
@@ -32,23 +34,17 @@ pub struct Pieces {
 }
 
 // Where a name lies whose entry is a head's frequent id and the rest. Unopened: the memory is no dictionary's.
-fn locate_pair(
-    pages: &[u8],
-    lists: &[u8],
-    s: Sizes,
-    k: usize,
-    entry: Span,
-) -> Result<Pieces, Refusal>
-    requires in_range { InRange s × (page_bytes s ≤ length pages.now) × (list_bytes s ≤ length lists.now) }
-    requires k_lt_kinds { (k < kinds) × ((row k).paired ≡ true) × (entry.at + entry.len ≤ page_bytes s) }
-    ensures { LocatesEntry s pages.now lists.now k entry.at entry.len result }
+fn locate_pair(memory: &Memory<'_, '_>, kind: Kind, entry: Span) -> Result<Pieces, Refusal>
+    requires { ((row (kind_number kind)).paired ≡ true) × (entry.at + entry.len ≤ page_bytes memory.now.lists.layout.sizes) }
+    ensures { LocatesEntry memory.now.lists.layout.sizes memory.now.pages.now memory.now.lists.bytes.now (kind_number kind) entry.at entry.len result }
 {
-    let stored = bytes_dictionary::id_to_bytes(pages, entry);
+    let row = Row::of(kind);
+    let stored = bytes_dictionary::id_to_bytes(memory.pages, entry);
     let Ok(FrequentId { value, length }) = ranked_pair_dictionary::read_frequent_id(stored) else {
         return Err(Refusal::Unopened);
     };
-    let d = kind_table::head_dictionary(k);
-    let Some(head) = bytes_dictionary::look_up(lists, s, d, EntryId(value))? else {
+    let lists = &memory.lists;
+    let Some(head) = bytes_dictionary::look_up(lists, row.heads, EntryId(value))? else {
         return Err(Refusal::Unopened);
     };
     let rest = Span {
@@ -56,11 +52,11 @@ fn locate_pair(
         len: entry.len - length,
     };
     // How many bytes of the rest belong to the first part.
-    let moved = if kind_table::is_split(k) { rest.len } else { 0 };
+    let moved = if row.is_split() { rest.len } else { 0 };
     let first = head.len + moved;
     let second = rest.len - moved;
     Ok(Pieces {
-        kind: k,
+        kind,
         first,
         second,
         front: head,
@@ -70,9 +66,16 @@ fn locate_pair(
 }
 
 // The pieces of a tagged string. Its text stands behind `before` bytes of the entry, its tag in `stored` bytes behind the first one.
-fn tagged(k: usize, entry: Span, before: usize, stored: usize, tag: usize, escaped: bool) -> Pieces
+fn tagged(
+    kind: Kind,
+    entry: Span,
+    before: usize,
+    stored: usize,
+    tag: usize,
+    escaped: bool,
+) -> Pieces
     requires { (before ≤ entry.len) × (entry.at + entry.len < 2 ^ 64) × (1 ≤ entry.len) }
-    ensures { result ≡ tagged_pieces k entry before stored tag escaped }
+    ensures { result ≡ tagged_pieces kind entry before stored tag escaped }
 {
     let text = entry.len - before;
     let front = Span {
@@ -84,7 +87,7 @@ fn tagged(k: usize, entry: Span, before: usize, stored: usize, tag: usize, escap
         len: stored,
     };
     Pieces {
-        kind: k,
+        kind,
         first: text,
         second: tag,
         front,
@@ -94,28 +97,28 @@ fn tagged(k: usize, entry: Span, before: usize, stored: usize, tag: usize, escap
 }
 
 // Where a name lies whose entry is a packed text and tag. Unopened: the entry is no such form.
-fn locate_tagged(pages: &[u8], k: usize, entry: Span) -> Result<Pieces, Refusal>
-    requires { (k < kinds) × ((row k).way ≡ packs) × (entry.at + entry.len ≤ length pages.now) }
-    ensures { LocatesAlone pages.now k entry.at entry.len result }
+fn locate_tagged(pages: &[u8], kind: Kind, entry: Span) -> Result<Pieces, Refusal>
+    requires { ((row (kind_number kind)).way ≡ packs) × (entry.at + entry.len ≤ length pages.now) }
+    ensures { LocatesAlone pages.now (kind_number kind) entry.at entry.len result }
 {
     match string_dv_dict_split::split(bytes_dictionary::id_to_bytes(pages, entry)) {
-        Some(Form::Short { tag }) => Ok(tagged(k, entry, tag + 1, tag, tag, false)),
-        Some(Form::Long { end, tag }) => Ok(tagged(k, entry, end + 2, end, tag, true)),
+        Some(Form::Short { tag }) => Ok(tagged(kind, entry, tag + 1, tag, tag, false)),
+        Some(Form::Long { end, tag }) => Ok(tagged(kind, entry, end + 2, end, tag, true)),
         None => Err(Refusal::Unopened),
     }
 }
 
 // Where a name lies whose entry is its first part.
-fn locate_plain(k: usize, entry: Span) -> Pieces
-    requires { (k < kinds) × ((row k).way ≡ whole) }
-    ensures { (pages : Bytes) → LocatesAlone pages k entry.at entry.len (Ok result) }
+fn locate_plain(kind: Kind, entry: Span) -> Pieces
+    requires { (row (kind_number kind)).way ≡ whole }
+    ensures { (pages : Bytes) → LocatesAlone pages (kind_number kind) entry.at entry.len (Ok result) }
 {
     let nothing = Span {
         at: entry.at,
         len: 0,
     };
     Pieces {
-        kind: k,
+        kind,
         first: entry.len,
         second: 0,
         front: entry,
@@ -124,43 +127,31 @@ fn locate_plain(k: usize, entry: Span) -> Pieces
     }
 }
 
-fn locate_entry(
-    pages: &[u8],
-    lists: &[u8],
-    s: Sizes,
-    k: usize,
-    entry: Span,
-) -> Result<Pieces, Refusal>
-    requires in_range { InRange s × (page_bytes s ≤ length pages.now) × (list_bytes s ≤ length lists.now) }
-    requires k_lt_kinds { (k < kinds) × (entry.at + entry.len ≤ page_bytes s) }
-    ensures { LocatesEntry s pages.now lists.now k entry.at entry.len result }
+fn locate_entry(memory: &Memory<'_, '_>, kind: Kind, entry: Span) -> Result<Pieces, Refusal>
+    requires { entry.at + entry.len ≤ page_bytes memory.now.lists.layout.sizes }
+    ensures { LocatesEntry memory.now.lists.layout.sizes memory.now.pages.now memory.now.lists.bytes.now (kind_number kind) entry.at entry.len result }
 {
-    let way = kind_table::row_of(k).way;
-    match way {
-        Way::Splits | Way::Pairs => locate_pair(pages, lists, s, k, entry),
-        Way::Whole => Ok(locate_plain(k, entry)),
-        Way::Packs => locate_tagged(pages, k, entry),
+    // Kept: a match. The ways are closed, and each needs other facts of the entry; a function in each row of the table would need one contract for all.
+    match Row::of(kind).way {
+        Way::Splits | Way::Pairs => locate_pair(memory, kind, entry),
+        Way::Whole => Ok(locate_plain(kind, entry)),
+        Way::Packs => locate_tagged(memory.pages, kind, entry),
     }
 }
 
 // The name that has a number. None: no name has it. Unopened: the memory is no dictionary's.
-pub fn locate_name(
-    pages: &[u8],
-    lists: &[u8],
-    s: Sizes,
-    number: GlobalId,
-) -> Result<Option<Pieces>, Refusal>
-    requires { InRange s × (page_bytes s ≤ length pages.now) × (list_bytes s ≤ length lists.now) }
-    ensures { LocatesName s pages.now lists.now number.0 result }
+pub fn locate_name(memory: &Memory<'_, '_>, number: GlobalId) -> Result<Option<Pieces>, Refusal>
+    ensures { LocatesName memory.now.lists.layout.sizes memory.now.pages.now memory.now.lists.bytes.now number.0 result }
 {
-    let Some(Owner { kind, local }) = meta_dv_dict::global_to_local(lists, s, number)? else {
+    let lists = &memory.lists;
+    let Some(Owner { kind, local }) = meta_dv_dict::global_to_local(lists, number)? else {
         return Ok(None);
     };
-    let d = kind_table::main_dictionary(kind);
-    let Some(entry) = bytes_dictionary::look_up(lists, s, d, names::local_to_entry(local))? else {
+    let d = Row::of(kind).main;
+    let Some(entry) = bytes_dictionary::look_up(lists, d, names::local_to_entry(local))? else {
         return Ok(None);
     };
-    let pieces = locate_entry(pages, lists, s, kind, entry)?;
+    let pieces = locate_entry(memory, kind, entry)?;
     Ok(Some(pieces))
 }
 

@@ -116,7 +116,7 @@ module _ (s : Sizes) (store : Store) (pages lists : Bytes) (d place : ℕ) (spot
   commit-entry b T =
       let r : InRange s = ranged s S.header.ranged in
       let f : list_bytes s ≤ length lists = S.header.lists-fit in (
-        store-more s store pages lists d place t key (record { ranged = r; pages-fit = S.header.pages-fit; lists-fit = f; known = dl }) S room short stamp-fits later pl M spot planned,
+        store-more s store pages lists d place t key r S.header.pages-fit f dl S room short stamp-fits later pl M spot planned,
         kept-blocks s b lists _
             (λ i h.
             words-beside s lists d (store.count d) place t key r f dl room pl spot (planned-room s (word_at lists) d (word_at lists untaken_at) (length key) spot short planned) i

@@ -2,7 +2,6 @@
 use Prim.Native.Nat.{ℕ}
 use mathlib.Core.Path.{◌≡◌, sym, ◌∙◌}
 use mathlib.Core.Bool.{Bool, true, false, not}
-use mathlib.Core.Option.{none}
 use lib.Dec.{eqb, ltb}
 use lib.ListN.{length}
 use Rattle.std.specs.Prelude.{cond, Result, Ok, Err}
@@ -11,16 +10,13 @@ use Rattle.words.specs.Words.{word_at}
 use Rattle.refusals.specs.declared.Refusal.{Refusal}
 use Rattle.refusals.specs.declared.Refusal.TheVariants.{Unopened}
 use Rattle.layout.specs.declared.Sizes.{Sizes}
-use Rattle.layout.specs.Sizes.{kinds, in_range, InRange, page_bytes, list_bytes}
+use Rattle.layout.specs.Sizes.{in_range, InRange, page_bytes, list_bytes}
 use Rattle.layout.specs.Fields.{format}
-use Rattle.layout.specs.Lent.{Lent}
+use Rattle.layout.specs.Lent.{Fit}
 use Rattle.layout.proofs.Ranges.{ranged}
 use Rattle.header.specs.Header.{header_of, sizes_in, AlwaysUnopened, HeaderOf}
 use Rattle.header.proofs.Opening.{always, opened-by}
-use Rattle.model.specs.Names.{Name}
 use Rattle.model.specs.State.{State}
-use Rattle.model.specs.Steps.{shape_refusal}
-use Rattle.model.proofs.Legal.{legal-shape}
 use Rattle.memory.specs.Stands.{Stands}
 use Rattle.memory.proofs.Counts.{header_is}
 
@@ -61,9 +57,9 @@ module _ (pages lists : Bytes) where
     not-always u =
         let q : ◌≡◌ {A = Result Sizes Refusal} (Ok s) (Err Unopened) = sym e ∙ always pages lists u in cc
 
-    -- What the call of a legal name may rely on.
-    pub lent : (a : Name) → shape_refusal s a ≡ none → Lent s pages lists kinds a.kind
-    lent a h = record { ranged = in-range; pages-fit = header.pages-fit; lists-fit = header.lists-fit; known = (legal-shape s a h).kind }
+    -- What a writer may rely on.
+    pub fit : Fit s pages lists
+    fit = record { pages-fit = header.pages-fit; lists-fit = header.lists-fit }
 
     -- The sizes of any state that it stands for.
     pub one-sizes : (t : Sizes) (st : State) → Stands t st pages lists → t ≡ s

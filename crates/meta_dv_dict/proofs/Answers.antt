@@ -10,6 +10,8 @@ use Rattle.slices.specs.Bytes.{Bytes}
 use Rattle.words.specs.Words.{word_at}
 use Rattle.layout.specs.declared.Sizes.{Sizes}
 use Rattle.layout.specs.Sizes.{kinds}
+use Rattle.layout.specs.declared.Kind.{Kind}
+use Rattle.layout.specs.Numbers.{kind_number}
 use Rattle.layout.specs.Fields.{local_at, global_at}
 use Rattle.refusals.specs.declared.Refusal.{Refusal}
 use Rattle.refusals.specs.declared.Refusal.TheVariants.{Unopened}
@@ -83,28 +85,28 @@ module _ (s : Sizes) (lists : Bytes) (n size : ℕ) (Z : size ≡ 2 ^ s.w) where
           right = λ b T. ap (λ (o : Block). Ok (owned_by s.w n o)) (sym (ap word_owner (e' ∙ z)) ∙ owner-in s b lists T (n / 2 ^ s.w) f');
         }
 
-    owned : (b : Blocks) → BlocksAt s b lists → x ≢ 0 → b.owner (n / 2 ^ s.w) ≡ held ((x - 1) % 16) ((x - 1) / 16)
-    owned b T d = named s b lists T (n / 2 ^ s.w) x (rw Z at f) (rw Z at e) d
+    owner : (b : Blocks) → BlocksAt s b lists → x ≢ 0 → b.owner (n / 2 ^ s.w) ≡ held ((x - 1) % 16) ((x - 1) / 16)
+    owner b T d = named s b lists T (n / 2 ^ s.w) x (rw Z at f) (rw Z at e) d
 
     pub locals-bad-kind : x ≢ 0 → kinds ≤ (x - 1) % 16 → Locals s lists n (Err Unopened)
     locals-bad-kind d h = record {
       range = refl;
-      right = λ b T. absurd (omega (arith, T.kind (n / 2 ^ s.w) _ _ (owned b T d)));
+      right = λ b T. absurd (omega (arith, T.kind (n / 2 ^ s.w) _ _ (owner b T d)));
     }
 
     pub locals-bad-block : x ≢ 0 → s.b ≤ (x - 1) / 16 → Locals s lists n (Err Unopened)
     locals-bad-block d h = record {
       range = refl;
       right = λ b T.
-          let r = T.sound.back (n / 2 ^ s.w) _ _ (owned b T d) in
+          let r = T.sound.back (n / 2 ^ s.w) _ _ (owner b T d) in
           absurd (omega (arith, begun-below s.w s.b b _ ((x - 1) / 16) T.sound T.below r.0));
     }
 
-    pub locals-held : x ≢ 0 → (x - 1) % 16 < kinds → (x - 1) / 16 < s.b
-        → Locals s lists n (Ok (Some (record { kind = (x - 1) % 16; local = record { 0 = (x - 1) / 16 * size + n % size } })))
-    locals-held d h g =
+    pub locals-held : (kind : Kind) → x ≢ 0 → kind_number kind ≡ (x - 1) % 16 → (x - 1) / 16 < s.b
+        → Locals s lists n (Ok (Some (record { kind = kind; local = record { 0 = (x - 1) / 16 * size + n % size } })))
+    locals-held kind d e g =
         let lt : n % 2 ^ s.w < 2 ^ s.w = mod-lt n (Pow.pow_pos s.w) in
         record {
-          range = (h, rw (Z, Pow.high ((x - 1) / 16) s.w lt) g);
-          right = λ b T. rw (Z, owned b T d);
+          range = rw (Z, Pow.high ((x - 1) / 16) s.w lt) g;
+          right = λ b T. rw (Z, owner b T d, e) refl;
         }

@@ -44,13 +44,13 @@ pub struct NamedictCounted {
 }
 
 // The values of `word`.
-const NONE: u64 = 0;
+pub const NONE: u64 = 0;
 
-const FRESH: u64 = 1;
+pub const FRESH: u64 = 1;
 
-const KNOWN: u64 = 2;
+pub const KNOWN: u64 = 2;
 
-const NAME: u64 = 4;
+pub const NAME: u64 = 4;
 
 // 0 for done.
 // Kept: a function. `From` has to stand beside one of its two types, and both are std's: `Result` and `u64`.
@@ -125,7 +125,7 @@ impl From<Result<Option<Told>, Refusal>> for NamedictName {
             ) => NamedictName {
                 refusal: 0,
                 word: NAME,
-                kind: kind as u64,
+                kind: usize::from(kind) as u64,
                 first_len: first as u64,
                 second_len: second as u64,
             },

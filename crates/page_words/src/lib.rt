@@ -2,11 +2,11 @@
 #![tactic(auto)]
 
 ghost use Rattle.std.specs.Prelude.{◌≡◌, ◌+◌, ◌*◌, ◌≤◌, ◌<◌, length};
-ghost use Rattle.layout.specs.Sizes.{dictionaries};
+ghost use Rattle.layout.specs.Numbers.{dictionary_number};
 ghost use Rattle.layout.specs.Fields.{page_at};
 ghost use Rattle.page_words.specs.Written.{extended_page, took_page};
 
-use layout::{CURRENT, OWNERS, PAGE_NUMBERS, PAGES, POSITION, STRIDE, TAKEN, UNTAKEN};
+use layout::{CURRENT, Dictionary, OWNERS, PAGE_NUMBERS, PAGES, POSITION, STRIDE, TAKEN, UNTAKEN};
 use words::WORD;
 
 // Marks the page as used up to `used`. Its owner and its position stay.
@@ -25,10 +25,11 @@ pub fn extend(lists: &mut [u8], page: usize, used: usize)
 
 // Makes the page the current one of dictionary d, used up to `used`. The page after it becomes the lowest untaken one.
 #[tactic(auto, unfolding(crate::specs::Written::took_page))]
-pub fn take_page(lists: &mut [u8], d: usize, page: usize, used: usize)
-    requires { (8 * page_at page + 8 ≤ length lists.old) × (d < dictionaries) × (used < 2097152) }
-    ensures { lists.new ≡ took_page lists.old d page used }
+pub fn take_page(lists: &mut [u8], d: Dictionary, page: usize, used: usize)
+    requires { (8 * page_at page + 8 ≤ length lists.old) × (used < 2097152) }
+    ensures { lists.new ≡ took_page lists.old (dictionary_number d) page used }
 {
+    let d = usize::from(d);
     // While a page is left, a dictionary has fewer than 1,024 pages. So the remainder is the number itself.
     let taken = words::number_at::<WORD>(lists, TAKEN + STRIDE * d) % PAGE_NUMBERS;
     words::put_number::<WORD>(

@@ -107,17 +107,17 @@ module _ (s : Sizes) (lists : Bytes) (k : ℕ) (new : Bool) (f size len : ℕ) (
             ∙ ap (λ (j : ℕ). spot_in s (word_at lists) j v len) (sym p)
             ∙ sym e
 
-        pub plans-pageless : (why : Refusal) → (Err why ≡ spot_in s (word_at lists) d v len) × InPages s v len (Err why) → Plans s lists k new f size len (Err why)
-        plans-pageless why e =
+        pub plans-pageless : (why : Refusal) → Err why ≡ spot_in s (word_at lists) d v len → InPages s v len (Err why) → Plans s lists k new f size len (Err why)
+        plans-pageless why e b =
             record {
-              bounded = page-within s v len why e.1;
+              bounded = page-within s v len why b;
               right = λ pages st S.
-                  let m = main-is S e.0 in
+                  let m = main-is S e in
                   let q : why ≡ W.NoPage = spot-pageless S (row k).main_at (untaken_after (all_pages st.space) head) len (main-below k) m in
                   rw q (pageless (room-is S) F.head-room head (head-is S) (m ∙ ap Err q));
             }
 
-        module _ (spot : Spot) (e : (Ok spot ≡ spot_in s (word_at lists) d v len) × InPages s v len (Ok spot)) where
+        module _ (spot : Spot) (e : Ok spot ≡ spot_in s (word_at lists) d v len) (b : InPages s v len (Ok spot)) where
           chosen_is : (r : Result Chosen Refusal) → Chooses s lists k n r → {pages : Bytes} {st : State} (S : Stands s st pages lists)
               → r ≡ chosen_by (stamp_of st.blocks) (pick s st.blocks k)
           chosen_is r C {pages} {st} S = C.right pages st S (next-count S k ∙ sym (number_is S n F.counted))
@@ -134,7 +134,7 @@ module _ (s : Sizes) (lists : Bytes) (k : ℕ) (new : Bool) (f size len : ℕ) (
                   → NoRoom s st lists k new f size len why
               go {pages} {st} S t none p c =
                   let q : W.NoBlock ≡ why = cc in
-                  subst (NoRoom s st lists k new f size len) q (blockless (room-is S) F.head-room head spot (head-is S) (main-is S e.0) p)
+                  subst (NoRoom s st lists k new f size len) q (blockless (room-is S) F.head-room head spot (head-is S) (main-is S e) p)
               go {pages} {st} S t (some g) p c = let z : ◌≡◌ {A = ℕ} 0 1 = cc in absurd (omega arith)
 
           pub plans-ready : (x : Chosen) → len ≤ page_size s → Chooses s lists k n (Ok x)
@@ -145,14 +145,14 @@ module _ (s : Sizes) (lists : Bytes) (k : ℕ) (new : Bool) (f size len : ℕ) (
                   heads = F.head-room;
                   number = F.room;
                   head = H.1;
-                  room = plan-room s v len spot short e.1;
+                  room = plan-room s v len spot short b;
                   block = C.bounded.0;
                   local = C.bounded.1;
                   stamp = C.bounded.2;
                 };
                 right = λ pages st S.
                     let r = go (stamp_of st.blocks) (pick s st.blocks k) (chosen_is _ C S) in
-                    record { number = number_is S n F.counted; head = head-is S; spot = main-is S e.0; block = r.0; stamp = r.1 };
+                    record { number = number_is S n F.counted; head = head-is S; spot = main-is S e; block = r.0; stamp = r.1 };
               }
             where
               go : (t : ℕ) (o : Option ℕ) → ◌≡◌ {A = Result Chosen Refusal} (Ok x) (chosen_by t o) → (o ≡ some x.g) × (x.stamp ≡ t)

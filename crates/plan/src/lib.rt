@@ -1,13 +1,16 @@
 // The plan of an add: where a name's entries go, its block and its stamp. It decides refusals 8, 9 and 10, and writes nothing. The memory may hold any bytes.
 #![tactic(auto)]
 
-ghost use Rattle.std.specs.Prelude.{◌≤◌, ◌<◌, length};
-ghost use Rattle.layout.specs.Sizes.{InRange, kinds, page_size, list_bytes};
+ghost use Rattle.std.specs.Prelude.{◌≤◌};
+ghost use Rattle.layout.specs.Sizes.{page_size};
+ghost use Rattle.layout.specs.Numbers.{kind_number};
 ghost use Rattle.plan.specs.Plans.{Plans};
 ghost use Rattle.plan_room.specs.Steps.{is_new, head_number};
 
 use bytes_buffer::Spot;
-use layout::Sizes;
+use kind_table::Row;
+use layout::Kind;
+use layout::lent::Lists;
 use plan_room::{Chosen, Room};
 use refusals::Refusal;
 
@@ -23,24 +26,23 @@ pub struct Plan {
 
 // Decides where a head of `size` bytes, if it is a new one, and a key of len bytes go: refusals 8, 9, 10 of both together. `head`: the number of a new head.
 pub fn plan_name(
-    lists: &[u8],
-    s: Sizes,
-    k: usize,
+    lists: &Lists<'_>,
+    kind: Kind,
     head: Option<usize>,
     size: usize,
     len: usize,
 ) -> Result<Plan, Refusal>
-    requires { InRange s × (list_bytes s ≤ length lists.now) × (k < kinds) × (size ≤ page_size s) × (len ≤ page_size s) }
-    ensures { Plans s lists.now k (is_new head) (head_number head) size len result }
+    requires { (size ≤ page_size lists.now.layout.sizes) × (len ≤ page_size lists.now.layout.sizes) }
+    ensures { Plans lists.now.layout.sizes lists.now.bytes.now (kind_number kind) (is_new head) (head_number head) size len result }
 {
-    let Room { n, untaken } = plan_room::check_room(lists, s, k, head.unwrap_or(0))?;
-    let headspot = plan_room::plan_head(lists, s, k, head, untaken, size)?;
-    let next = bytes_buffer::untaken_after(untaken, headspot);
-    let spot = bytes_buffer::plan(lists, s, kind_table::main_dictionary(k), next, len)?;
-    let Chosen { g, stamp } = plan_room::choose_block(lists, s, k, n)?;
+    let Room { n, untaken } = plan_room::check_room(lists, kind, head.unwrap_or(0))?;
+    let head_spot = plan_room::plan_head(lists, kind, head, untaken, size)?;
+    let next = bytes_buffer::untaken_after(untaken, head_spot);
+    let spot = bytes_buffer::plan(lists, Row::of(kind).main, next, len)?;
+    let Chosen { g, stamp } = plan_room::choose_block(lists, kind, n)?;
     Ok(Plan {
         n,
-        head: headspot,
+        head: head_spot,
         spot,
         g,
         stamp,

@@ -1,12 +1,13 @@
 -- What the steps of a plan answer, from what they read. Assumes nothing.
-use Prim.Native.Nat.{ℕ, ◌+◌, ◌*◌, ◌≤◌, ◌<◌}
-use mathlib.Core.Path.{◌≡◌, sym, ap, ◌∙◌}
+use Prim.Native.Nat.{ℕ, zero, suc, ◌+◌, ◌*◌, ◌≤◌, ◌<◌}
+use mathlib.Core.Path.{◌≡◌, refl, sym, ap, ◌∙◌}
 use mathlib.Core.Logic.{inl, inr}
 use mathlib.Core.Option.{Option, none, some}
+use mathlib.Core.List.{[], ◌∷◌}
 use native.Mathlib.Omega.{arith}
 use native.Mathlib.Nat.{mul-le-mul_right, suc-mul}
 use native.Mathlib.Numerals.{add-one}
-use lib.ListN.{length}
+use lib.ListN.{length, get_or}
 use Rattle.std.specs.Prelude.{Some, Result, Ok, Err}
 use lib.Dec.{leb}
 use Rattle.slices.specs.Bytes.{Bytes}
@@ -15,6 +16,9 @@ use Rattle.words.specs.Words.{word_at}
 use Rattle.refusals.specs.declared.Refusal.{Refusal}
 use Rattle.refusals.specs.declared.Refusal.TheVariants.{Unopened}
 use Rattle.layout.specs.declared.Sizes.{Sizes}
+use Rattle.layout.specs.declared.Kind.{Kind}
+use Rattle.layout.specs.declared.Kind.TheVariants.{Iri, Plain, Tagged, Typed}
+use Rattle.layout.specs.Numbers.{kind_number}
 use Rattle.layout.specs.Sizes.{kinds}
 use Rattle.layout.specs.Fields.{count_at, untaken_at}
 use Rattle.bytes_buffer.specs.Pages.{sum}
@@ -36,6 +40,21 @@ use Rattle.plan_room.specs.Steps.{Stamps, chosen_by, Chooses, count_word, Uncoun
 pub counted-main : (s : Sizes) (lists : Bytes) (k d : ℕ) (r : Result ℕ Refusal) → d ≡ (row k).main_at → r ≡ count_in s (word_at lists (count_at d))
     → count_in s (count_word lists k) ≡ r
 counted-main s lists k d r q e = ap (λ (j : ℕ). count_in s (word_at lists (count_at j))) (sym q) ∙ sym e
+
+-- The kinds stand in the order of their numbers.
+kind-at : (none-such : Kind) (i : ℕ) → i < kinds → kind_number (get_or (Iri ∷ Plain ∷ Tagged ∷ Typed ∷ []) i none-such) ≡ i
+kind-at _ zero l = refl
+kind-at _ (suc zero) l = refl
+kind-at _ (suc (suc zero)) l = refl
+kind-at _ (suc (suc (suc zero))) l = refl
+kind-at _ (suc (suc (suc (suc i)))) l = absurd (omega arith)
+
+-- A count that was read in the main dictionary of the kind at place i of all kinds.
+pub counted-at : (s : Sizes) (lists : Bytes) (none-such : Kind) (i d : ℕ) (r : Result ℕ Refusal) → i < kinds
+    → d ≡ (row (kind_number (get_or (Iri ∷ Plain ∷ Tagged ∷ Typed ∷ []) i none-such))).main_at
+    → r ≡ count_in s (word_at lists (count_at d))
+    → count_in s (count_word lists i) ≡ r
+counted-at s lists none-such i d r l q e = counted-main s lists i d r (rw (kind-at none-such i l) at q) e
 
 -- The sum so far and one count more.
 pub sum_bound : (e t k n : ℕ) → t ≤ k * e → n ≤ e → t + n ≤ (k + 1) * e

@@ -14,6 +14,7 @@ pub enum Entry {
     Count,
 }
 
+// Kept: two matches. One function for both enums would need their characters as data, and is no plainer.
 impl From<u8> for Entry {
     fn from(character: u8) -> Entry {
         match character {
@@ -45,6 +46,7 @@ impl From<u8> for Word {
     }
 }
 
+// Kept: the kind is a number, as the C interface takes it.
 #[derive(Clone, Copy)]
 pub struct Call<'a> {
     pub entry: Entry,
@@ -85,23 +87,24 @@ impl<'a> Call<'a> {
     }
 
     // Whether this is the answer of add or of find.
-    // Kept: the C interface gives the words as numbers, 1 for fresh, 2 for known, 4 for a name.
+    // Kept: the C interface gives the words as numbers.
     pub fn is_numbered(self, answer: NamedictNumbered) -> bool {
         let word = match self.word {
-            Word::Fresh => 1,
-            Word::Known => 2,
-            Word::Name | Word::Nothing => 0,
+            Word::Fresh => numbers::FRESH,
+            Word::Known => numbers::KNOWN,
+            Word::Name | Word::Nothing => numbers::NONE,
         };
         answer.refusal == 0 && answer.word == word && answer.number == self.number
     }
 
     // Whether this is the answer of read, which put the name's parts into the buffer.
+    // Kept: `calls` has a test like this one. It has its own type of names and no case of no name, so one for both is no plainer.
     pub fn is_read(self, answer: NamedictName, buffer: &[u8]) -> bool {
         if self.word == Word::Nothing {
-            return answer.refusal == 0 && answer.word == 0;
+            return answer.refusal == 0 && answer.word == numbers::NONE;
         }
         answer.refusal == 0
-            && answer.word == 4
+            && answer.word == numbers::NAME
             && answer.kind == self.kind
             && answer.first_len == self.first.len() as u64
             && answer.second_len == self.second.len() as u64

@@ -10,6 +10,7 @@ mod replay;
 use std::io;
 use std::io::{BufWriter, Read, Write};
 
+// Kept: `calls` begins alike. A function for both would take what is done with the input as a closure, and is no plainer than these lines.
 fn main(rt: HostRuntime) -> io::Result<()> {
     let alloc = rt.alloc();
     let mut input = Vec::new(alloc);

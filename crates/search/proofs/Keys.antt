@@ -16,7 +16,7 @@ use Rattle.string_dv_dict.proofs.Keys.{packed-key}
 use Rattle.layout.specs.declared.Sizes.{Sizes}
 use Rattle.layout.specs.Sizes.{InRange, limit, page_size}
 use Rattle.layout.proofs.Ranges.{page-size, limit-fits}
-use Rattle.bytes_key.specs.Keys.{key_bytes, IsKey}
+use Rattle.bytes_key.specs.Keys.{key_bytes}
 use Rattle.model.specs.Names.{entered}
 use Rattle.model.specs.Kinds.{Way, splits, whole, packs, pairs, has_heads, rest_by, row}
 use Rattle.model.proofs.Table.{first_only}
@@ -25,11 +25,6 @@ use Rattle.kind_table.specs.Rows.{front_mode}
 pub raw-key : (front rest : Bytes) → key_bytes Raw front Raw rest ≡ front ++ rest
 unfolding bytes_of
 raw-key front rest = refl
-
-pub raw-is-key : (d h : ℕ) (front rest : Bytes) → h ≡ fnv_of (front ++ rest) → length (front ++ rest) < 2 ^ 64
-    → IsKey (record { d = d; h = h; front = Raw; rest = Raw }) front rest
-unfolding bytes_of
-raw-is-key d h front rest p l = record { hashed = p; fits = l }
 
 -- A scan of the whole key.
 pub scanned-hash : (key : Bytes) (h : ℕ) → h ≡ fnv_from 2166136261 key → h ≡ fnv_of key

@@ -48,7 +48,7 @@ pub record KeyEnded (s : Sizes) (pages lists : Bytes) (k : ℕ) (head rest : Byt
 -- The search for the head ended so, and the key was not searched.
 pub record HeadEnded (s : Sizes) (pages lists : Bytes) (k : ℕ) (head : Bytes) (x : Sought) (r : Result Probe Refusal) : Type 0 where
   pub paired : (row k).paired ≡ true
-  pub hashed : x.headhash ≡ fnv_of head
+  pub hashed : x.head_hash ≡ fnv_of head
   pub searched : Searched s (row k).heads_at pages lists head r
 
 -- The search for a name of the kind k with this head and this rest.

@@ -5,12 +5,12 @@ ghost use Rattle.std.specs.Prelude.{◌≡◌, true, false, [], ◌++◌, ◌≤
 ghost use Rattle.std.proofs.Math.Option.{none};
 ghost use Rattle.fnv.specs.Fnv.{fnv_of, bits_from};
 ghost use Rattle.utf8.specs.Text.{is_text};
-ghost use Rattle.layout.specs.Sizes.{limit, kinds};
-ghost use Rattle.layout.specs.Lent.{Lent};
+ghost use Rattle.layout.specs.Sizes.{limit};
+ghost use Rattle.layout.specs.Numbers.{kind_number, dictionary_number};
 ghost use Rattle.ranked_pair_dictionary.specs.FrequentId.{fid};
-ghost use Rattle.bytes_key.specs.Keys.{bytes_in, IsKey};
+ghost use Rattle.bytes_key.specs.KeyBytes.{bytes_in};
 ghost use Rattle.bytes_index.specs.Search.{Searched};
-ghost use Rattle.model.specs.Names.{entered};
+ghost use Rattle.names.specs.Given.{given};
 ghost use Rattle.model.specs.Kinds.{row};
 ghost use Rattle.model.specs.Steps.{shape_refusal};
 ghost use Rattle.search.specs.Found.{EndsKey, Ended, SearchEnded};
@@ -18,10 +18,13 @@ ghost use Rattle.search.specs.Found.{EndsKey, Ended, SearchEnded};
 use blocks::LocalId;
 use bytes_dictionary::EntryId;
 use bytes_index::Probe;
-use bytes_key::Key;
+use bytes_key::{Key, Parts};
 use fnv::Scanned;
-use layout::Sizes;
-use parts::{Mode, Part};
+use kind_table::Row;
+use layout::Kind;
+use layout::lent::Memory;
+use names::Name;
+use parts::Part;
 use ranked_pair_dictionary::Lead;
 use refusals::Refusal;
 
@@ -49,156 +52,131 @@ pub struct Sought {
     pub ascii: bool,
     pub lead: Lead,
     pub h: u32,
-    pub headhash: u32,
+    pub head_hash: u32,
 }
 
-// The search for a head of the kind k, whose hash is h.
-fn find_head(
-    pages: &[u8],
-    lists: &[u8],
-    s: Sizes,
-    k: usize,
-    h: u32,
-    head: &[u8],
-) -> Result<Probe, Refusal>
-    requires { Lent s pages.now lists.now kinds k × ((row k).paired ≡ true) × (h ≡ fnv_of head.now) }
-    ensures { Searched s (row k).heads_at pages.now lists.now head.now result }
+// The search for a head of the kind, whose hash is h.
+fn find_head(memory: &Memory<'_, '_>, kind: Kind, h: u32, head: &[u8]) -> Result<Probe, Refusal>
+    requires { h ≡ fnv_of head.now }
+    ensures { Searched memory.now.lists.layout.sizes (row (kind_number kind)).heads_at memory.now.pages.now memory.now.lists.bytes.now head.now result }
 {
-    let none = &head[..0];
     let key = Key {
-        d: kind_table::head_dictionary(k),
+        d: Row::of(kind).heads,
         h,
-        front: Mode::Raw,
-        rest: Mode::Raw,
+        parts: Parts {
+            front: Part::raw(&head[..0]),
+            rest: Part::raw(head),
+        },
     };
-    bytes_index::bytes_to_id(pages, lists, s, key, none, head)
+    bytes_index::bytes_to_id(memory, &key)
 }
 
-// The search for a key among the names of the kind k.
-fn find_key(
-    pages: &[u8],
-    lists: &[u8],
-    s: Sizes,
-    k: usize,
-    key: Key,
-    front: &[u8],
-    rest: &[u8],
-) -> Result<Search, Refusal>
-    requires { Lent s pages.now lists.now kinds k × (key.d ≡ (row k).main_at) × IsKey key front.now rest.now }
-    ensures { EndsKey s pages.now lists.now k (bytes_in key front.now rest.now) result }
+// The search for a key among the names of the kind k, whose dictionary the key has.
+fn find_key(memory: &Memory<'_, '_>, kind: Kind, key: &Key<'_, '_>) -> Result<Search, Refusal>
+    requires { dictionary_number key.now.d ≡ (row (kind_number kind)).main_at }
+    ensures { EndsKey memory.now.lists.layout.sizes memory.now.pages.now memory.now.lists.bytes.now (kind_number kind) (bytes_in key.now) result }
 {
-    Ok(
-        match bytes_index::bytes_to_id(pages, lists, s, key, front, rest)? {
-            Probe::At(i) => Search::Found(names::entry_to_local(EntryId(i))),
-            Probe::Free(place) => Search::Missing(Place::Key(place)),
-        },
-    )
+    Ok(match bytes_index::bytes_to_id(memory, key)? {
+        Probe::At(i) => Search::Found(names::entry_to_local(EntryId(i))),
+        Probe::Free(place) => Search::Missing(Place::Key(place)),
+    })
 }
 
 // The answer of a search that has found no head.
-fn headless(found: Result<Search, Refusal>, headhash: u32) -> Sought
-    ensures { (result.found ≡ found) × (result.headhash ≡ headhash) × (result.ascii ≡ false) }
+fn headless(found: Result<Search, Refusal>, head_hash: u32) -> Sought
+    ensures { (result.found ≡ found) × (result.head_hash ≡ head_hash) × (result.ascii ≡ false) }
 {
     Sought {
         found,
         ascii: false,
         lead: Lead::empty(),
         h: 0,
-        headhash,
+        head_hash,
     }
 }
 
 // The search for a rest behind the head number f. The hash and the bits of the head are x.
-fn find_behind(
-    pages: &[u8],
-    lists: &[u8],
-    s: Sizes,
-    k: usize,
-    f: usize,
-    x: Scanned,
-    rest: &[u8],
-) -> Sought
-    requires { Lent s pages.now lists.now kinds k × (f < s.e) × (length rest.now ≤ limit s) }
-    ensures found { EndsKey s pages.now lists.now k (fid f ++ rest.now) result.found }
+fn find_behind(memory: &Memory<'_, '_>, kind: Kind, f: usize, x: Scanned, rest: &[u8]) -> Sought
+    requires { (f < memory.now.lists.layout.sizes.e) × (length rest.now ≤ limit memory.now.lists.layout.sizes) }
+    ensures found { EndsKey memory.now.lists.layout.sizes memory.now.pages.now memory.now.lists.bytes.now (kind_number kind) (fid f ++ rest.now) result.found }
     ensures placed { (result.lead ≡ fid f) × (result.h ≡ fnv_of (fid f ++ rest.now)) }
     ensures ascii { result.ascii ≡ true → bits_from x.bits rest.now < 128 }
 {
     let lead = ranked_pair_dictionary::lead_of(f);
     let y = fnv::scan(fnv::fnv(lead.as_slice()), x.bits, rest);
     let key = Key {
-        d: kind_table::main_dictionary(k),
+        d: Row::of(kind).main,
         h: y.h,
-        front: Mode::Raw,
-        rest: Mode::Raw,
+        parts: Parts {
+            front: Part::raw(lead.as_slice()),
+            rest: Part::raw(rest),
+        },
     };
-    let found = find_key(pages, lists, s, k, key, lead.as_slice(), rest);
+    let found = find_key(memory, kind, &key);
     Sought {
         found,
         ascii: y.bits < 0x80,
         lead,
         h: y.h,
-        headhash: x.h,
+        head_hash: x.h,
     }
 }
 
 // The search for a head and a rest.
-fn find_pair(pages: &[u8], lists: &[u8], s: Sizes, k: usize, head: &[u8], rest: &[u8]) -> Sought
-    requires { Lent s pages.now lists.now kinds k × ((row k).paired ≡ true) × (length rest.now ≤ limit s) }
-    ensures ended { Ended s pages.now lists.now k head.now rest.now result }
+fn find_pair(memory: &Memory<'_, '_>, kind: Kind, head: &[u8], rest: &[u8]) -> Sought
+    requires { ((row (kind_number kind)).paired ≡ true) × (length rest.now ≤ limit memory.now.lists.layout.sizes) }
+    ensures ended { Ended memory.now.lists.layout.sizes memory.now.pages.now memory.now.lists.bytes.now (kind_number kind) head.now rest.now result }
     ensures ascii { result.ascii ≡ true → bits_from (bits_from 0 head.now) rest.now < 128 }
 {
     let x = fnv::scan(fnv::START, 0, head);
-    match find_head(pages, lists, s, k, x.h, head) {
-        Ok(Probe::At(f)) => find_behind(pages, lists, s, k, f, x, rest),
+    match find_head(memory, kind, x.h, head) {
+        Ok(Probe::At(f)) => find_behind(memory, kind, f, x, rest),
         Ok(Probe::Free(place)) => headless(Ok(Search::Missing(Place::Head(place))), x.h),
         Err(why) => headless(Err(why), x.h),
     }
 }
 
-// The search for a string of the kind k, which has no heads: a plain string, or a text with its tag.
-fn find_str(pages: &[u8], lists: &[u8], s: Sizes, k: usize, text: &[u8], tag: &[u8]) -> Sought
-    requires { Lent s pages.now lists.now kinds k × (shape_refusal s (entered k text.now tag.now) ≡ none) × ((row k).paired ≡ false) }
-    ensures ended { Ended s pages.now lists.now k [] ((row k).rest (entered k text.now tag.now)) result }
-    ensures ascii { result.ascii ≡ true → (is_text text.now ≡ true) × (is_text tag.now ≡ true) }
+// The search for a string, whose kind has no heads: a plain string, or a text with its tag.
+fn find_str(memory: &Memory<'_, '_>, name: &Name<'_>) -> Sought
+    requires { (shape_refusal memory.now.lists.layout.sizes (given name.now) ≡ none) × ((row (kind_number name.now.kind)).paired ≡ false) }
+    ensures ended { Ended memory.now.lists.layout.sizes memory.now.pages.now memory.now.lists.bytes.now (kind_number name.now.kind) [] ((row (kind_number name.now.kind)).rest (given name.now)) result }
+    ensures ascii { result.ascii ≡ true → (is_text name.now.first.now ≡ true) × (is_text name.now.second.now ≡ true) }
 {
-    let mode = kind_table::front_mode(k);
+    let text = name.first;
+    let tag = name.second;
+    let row = Row::of(name.kind);
+    let mode = row.front_mode();
     let front = Part { mode, bytes: tag };
     let x = fnv::scan(front.hash_on(fnv::START), 0, text);
     let key = Key {
-        d: kind_table::main_dictionary(k),
+        d: row.main,
         h: x.h,
-        front: mode,
-        rest: Mode::Raw,
+        parts: Parts {
+            front,
+            rest: Part::raw(text),
+        },
     };
     Sought {
-        found: find_key(pages, lists, s, k, key, tag, text),
+        found: find_key(memory, name.kind, &key),
         // Most labels have a letter that is not ASCII, so a test of the tag would not pay.
         ascii: tag.len() == 0 && x.bits < 0x80,
         lead: Lead::empty(),
         h: x.h,
-        headhash: fnv::START,
+        head_hash: fnv::START,
     }
 }
 
-// The search for a name of legal shape. The answer is right if the text is legal too. Both parts have one lifetime, since the rest may lie in either.
-// Each slice is passed on as a part of itself, as in bytes_to_id, so that a call passes its contents in registers.
-pub fn find_name<'a>(
-    pages: &[u8],
-    lists: &[u8],
-    s: Sizes,
-    kind: usize,
-    first: &'a [u8],
-    second: &'a [u8],
-) -> Sought
-    requires { Lent s pages.now lists.now kinds kind × (shape_refusal s (entered kind first.now second.now) ≡ none) }
-    ensures ended { SearchEnded s pages.now lists.now (entered kind first.now second.now) result }
-    ensures ascii { result.ascii ≡ true → (is_text first.now ≡ true) × (is_text second.now ≡ true) }
+// The search for a name of legal shape. The answer is right if the text is legal too.
+pub fn find_name(memory: &Memory<'_, '_>, name: &Name<'_>) -> Sought
+    requires { shape_refusal memory.now.lists.layout.sizes (given name.now) ≡ none }
+    ensures ended { SearchEnded memory.now.lists.layout.sizes memory.now.pages.now memory.now.lists.bytes.now (given name.now) result }
+    ensures ascii { result.ascii ≡ true → (is_text name.now.first.now ≡ true) × (is_text name.now.second.now ≡ true) }
 {
-    if !kind_table::has_heads(kind) {
-        return find_str(&pages[..], &lists[..], s, kind, &first[..], &second[..]);
+    if !Row::of(name.kind).has_heads() {
+        return find_str(memory, name);
     }
     // An IRI and a typed value differ in where head and rest lie.
-    let n = names::head_length(kind, &first[..]);
-    let rest = names::rest_behind(kind, &first[..], &second[..], n);
-    find_pair(&pages[..], &lists[..], s, kind, &first[..n], rest)
+    let n = name.head_length();
+    let rest = name.rest_behind(n);
+    find_pair(memory, name.kind, &name.first[..n], rest)
 }

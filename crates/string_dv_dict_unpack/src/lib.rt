@@ -50,6 +50,7 @@ pub fn write_unescaped(s: &[u8], dst: &mut [u8], start: usize)
 }
 
 // The text of a form with these parts.
+// Kept: this and the next two ask that the form has these parts. A struct of both would be made at one place, for three small functions.
 fn text_of(form: &[u8], parts: Form) -> &[u8]
     requires { Splits form.now (Some parts) }
     ensures { result.now ≡ text_in form.now }

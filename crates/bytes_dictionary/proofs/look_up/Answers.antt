@@ -2,6 +2,7 @@
 use Rattle.std.proofs.Common.{sym, ap, ◌∙◌, arith}
 use Rattle.std.specs.Prelude.{Err}
 use Rattle.std.proofs.lemmas.Result.{err_from_is_err_and}
+use Rattle.layout.proofs.Numbers.{dictionary-below}
 use Rattle.bytes_dictionary.proofs.Reading.{counted-by, uncounted}
 use Rattle.bytes_dictionary.proofs.Looked.{looked-uncounted, looked-nothing, looked-at, looked-foreign}
 use Rattle.bytes_dictionary.proofs.look_up.Goals as goal
@@ -10,28 +11,25 @@ pub returns-in_err-n : goal.returns-in_err-n
 returns-in_err-n c =
     let f = err_from_is_err_and c.from_residual.result c.from_residual.ensures.1 in
     let u = uncounted _ _ _ (sym c.in_err-n.ensures) in
-    looked-uncounted _ _ _ _ c.requires.2 _ (f.1 ∙ ap Err (f.2 ∙ u.0)) u.1
+    looked-uncounted _ _ _ _ (dictionary-below c.args.d) _ (f.1 ∙ ap Err (f.2 ∙ u.0)) u.1
 
 pub returns-then-n-i : goal.returns-then-n-i
 returns-then-n-i c =
     let k = counted-by _ _ _ (sym c.in_ok-n.ensures) in
-    looked-nothing _ _ _ _ c.requires.2 (omega (arith, k, c.if-n-i.true))
+    looked-nothing _ _ _ _ (dictionary-below c.args.d) (omega (arith, k, c.if-n-i.true))
 
 pub entry-requires : goal.entry-requires
 entry-requires c =
     let k = counted-by _ _ _ (sym c.in_ok-n.ensures) in
-    let r = c.requires in
-    (r.0, r.1, r.2, omega (arith, k, c.if-n-i.false))
+    omega (arith, k, c.if-n-i.false)
 
 pub returns-in_err-span : goal.returns-in_err-span
 returns-in_err-span c =
     let k = counted-by _ _ _ (sym c.in_ok-n.ensures) in
-    let a = c.args in
     let f = err_from_is_err_and c.from_residual-in_err-span.result c.from_residual-in_err-span.ensures.1 in
-    looked-foreign a.s a.d a.id.0 a.lists.now c.requires.2 (omega (arith, k, c.if-n-i.false)) _ _ (f.1 ∙ ap Err f.2) c.in_err-span.ensures
+    looked-foreign _ _ _ _ (dictionary-below c.args.d) (omega (arith, k, c.if-n-i.false)) _ _ (f.1 ∙ ap Err f.2) c.in_err-span.ensures
 
 pub returns : goal.returns
 returns c =
     let k = counted-by _ _ _ (sym c.in_ok-n.ensures) in
-    let a = c.args in
-    looked-at a.s a.d a.id.0 a.lists.now c.requires.2 (omega (arith, k, c.if-n-i.false)) _ c.in_ok-span.ensures
+    looked-at _ _ _ _ (dictionary-below c.args.d) (omega (arith, k, c.if-n-i.false)) _ c.in_ok-span.ensures

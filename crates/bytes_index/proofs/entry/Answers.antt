@@ -26,11 +26,14 @@ at s v w size e q p l =
       inside = regroup (page_of v * page_size s) (offset_of v) (size_of v) (page_bytes s) (in-pages s (page_of v) (offset_of v + size_of v) p l');
     })
 
-pub returns-then-s-page : goal.returns-then-s-page
-returns-then-s-page c = rw (← c.dict_at.ensures) (bad _ _ _ c.number_at-w.ensures (λ p q. omega arith))
+pub returns-then-lists-page : goal.returns-then-lists-page
+returns-then-lists-page c =
+    rw (← c.from.ensures.0, ← c.dict_at-at.ensures) (bad _ _ _ c.number_at-w.ensures (λ p q. omega arith))
 
 pub returns-then-size-offset : goal.returns-then-size-offset
-returns-then-size-offset c = rw (← c.dict_at.ensures) (bad _ _ _ c.number_at-w.ensures (λ p q. omega arith))
+returns-then-size-offset c =
+    rw (← c.from.ensures.0, ← c.dict_at-at.ensures) (bad _ _ _ c.number_at-w.ensures (λ p q. omega arith))
 
 pub returns : goal.returns
-returns c = rw (← c.dict_at.ensures) (at _ _ _ _ c.number_at-w.ensures c.page_size-size.ensures c.if-s-page.false c.if-size-offset.false)
+returns c =
+    rw (← c.from.ensures.0, ← c.dict_at-at.ensures) (at _ _ _ _ c.number_at-w.ensures c.page_size-size.ensures c.if-lists-page.false c.if-size-offset.false)

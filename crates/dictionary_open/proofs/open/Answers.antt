@@ -1,48 +1,31 @@
 -- Each test refuses where document 01 does, and what initialisation leaves is a dictionary with no names. Assumes nothing.
-use Rattle.std.proofs.Common.{◌≡◌, arith}
-use Rattle.std.specs.Prelude.{Some, None}
+use Rattle.std.proofs.Common.{◌≡◌, sym, ap, ◌∙◌, arith}
 use Rattle.std.proofs.lemmas.Result.{err_from_is_err_and}
 use Rattle.refusals.specs.declared.Refusal.TheVariants.{BadSize}
-use Rattle.layout.specs.Sizes.{made}
-use Rattle.dictionary_open.proofs.Opens.{made_range, open-bad, open-short-pages, open-short-lists, open_done}
+use Rattle.layout.specs.Laid.{laid}
+use Rattle.dictionary_open.proofs.Opens.{open-bad, open-short-pages, open-short-lists, open_done}
 use Rattle.dictionary_open.proofs.open.Goals as goal
 
-pub returns-in_err-s : goal.returns-in_err-s
-returns-in_err-s c =
-    let m : made (record { p = c.args.p; n = c.args.n; e = c.args.e; w = c.args.w; b = c.args.b }) ≡ None = cc c.in_err-s.ensures.ok_part in
+pub returns-in_err-layout : goal.returns-in_err-layout
+returns-in_err-layout c =
     let p = err_from_is_err_and c.from_residual.result c.from_residual.ensures.1 in
-    let e = rw c.in_err-s.ensures.ok_part at c.in_err-s.ensures.value in
+    let e = rw c.in_err-layout.ensures.ok_part at c.in_err-layout.ensures.value in
     let b : p.0 ≡ BadSize = cc in
-    rw (p.1, b) (open-bad _ c.args.pages.now c.args.lists.now m)
-
-pub page_bytes-requires : goal.page_bytes-requires
-page_bytes-requires c =
-    let m : made (record { p = c.args.p; n = c.args.n; e = c.args.e; w = c.args.w; b = c.args.b }) ≡ Some c.in_ok-s.s = cc c.in_ok-s.ensures.ok_part in
-    made_range _ _ m
+    rw (p.1, b) (open-bad _ c.args.pages.now c.args.lists.now (sym c.new.ensures ∙ ap laid c.in_err-layout.ensures.ok_part))
 
 pub returns-then-pages-page_bytes : goal.returns-then-pages-page_bytes
 returns-then-pages-page_bytes c =
-    let m : made (record { p = c.args.p; n = c.args.n; e = c.args.e; w = c.args.w; b = c.args.b }) ≡ Some c.in_ok-s.s = cc c.in_ok-s.ensures.ok_part in
+    let m = sym c.new.ensures ∙ ap laid c.in_ok-layout.ensures.ok_part in
     open-short-pages _ _ m _ _ (omega (arith, c.if-pages-page_bytes.true, c.page_bytes.ensures))
-
-pub list_bytes-requires : goal.list_bytes-requires
-list_bytes-requires c =
-    let m : made (record { p = c.args.p; n = c.args.n; e = c.args.e; w = c.args.w; b = c.args.b }) ≡ Some c.in_ok-s.s = cc c.in_ok-s.ensures.ok_part in
-    made_range _ _ m
 
 pub returns-then-lists-list_bytes : goal.returns-then-lists-list_bytes
 returns-then-lists-list_bytes c =
-    let m : made (record { p = c.args.p; n = c.args.n; e = c.args.e; w = c.args.w; b = c.args.b }) ≡ Some c.in_ok-s.s = cc c.in_ok-s.ensures.ok_part in
+    let m = sym c.new.ensures ∙ ap laid c.in_ok-layout.ensures.ok_part in
     open-short-lists _ _ m _ _ (omega (arith, c.if-pages-page_bytes.false, c.page_bytes.ensures))
     (omega (arith, c.if-lists-list_bytes.true, c.list_bytes.ensures))
 
-pub init-requires : goal.init-requires
-init-requires c =
-    let m : made (record { p = c.args.p; n = c.args.n; e = c.args.e; w = c.args.w; b = c.args.b }) ≡ Some c.in_ok-s.s = cc c.in_ok-s.ensures.ok_part in
-    (made_range _ _ m, omega (arith, c.if-lists-list_bytes.false, c.list_bytes.ensures))
-
 pub returns : goal.returns
 returns c =
-    let m : made (record { p = c.args.p; n = c.args.n; e = c.args.e; w = c.args.w; b = c.args.b }) ≡ Some c.in_ok-s.s = cc c.in_ok-s.ensures.ok_part in
+    let m = sym c.new.ensures ∙ ap laid c.in_ok-layout.ensures.ok_part in
     open_done _ _ m _ _ (omega (arith, c.if-pages-page_bytes.false, c.page_bytes.ensures))
     (omega (arith, c.if-lists-list_bytes.false, c.list_bytes.ensures)) _ c.init.ensures

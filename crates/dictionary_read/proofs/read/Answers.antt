@@ -5,7 +5,7 @@ use Rattle.std.proofs.lemmas.Result.{err_from_is_err_and}
 use Rattle.slices.specs.Bytes.{Bytes}
 use Rattle.layout.specs.declared.Sizes.{Sizes}
 use Rattle.layout.proofs.Ranges.{page-bytes}
-use Rattle.memory.proofs.Headers.{header, in-range}
+use Rattle.memory.proofs.Headers.{header}
 use Rattle.locate.specs.declared.Pieces.{Pieces}
 use Rattle.locate.specs.Located.{LocatesName}
 use Rattle.dictionary_read.proofs.Tells.{read-unopened, read_none, read-bad, read_short, read_name}
@@ -15,41 +15,41 @@ use Rattle.dictionary_read.proofs.read.Goals as goal
 located_as : (s : Sizes) (pages lists : Bytes) (number : ℕ) (o p : Option Pieces) → o ≡ p → LocatesName s pages lists number (Ok o) → LocatesName s pages lists number (Ok p)
 located_as s pages lists number o p e h = rw e at h
 
-pub returns-in_err-s : goal.returns-in_err-s
-returns-in_err-s c =
+pub returns-in_err-layout : goal.returns-in_err-layout
+returns-in_err-layout c =
     let p = err_from_is_err_and c.from_residual.result c.from_residual.ensures.1 in
-    rw (p.1, p.2) (read-unopened _ _ _ _ _ (sym c.in_err-s.ensures))
+    rw (p.1, p.2) (read-unopened _ _ _ _ _ (sym c.in_err-layout.ensures))
 
-pub locate_name-requires : goal.locate_name-requires
-locate_name-requires c =
-    let e = sym c.in_ok-s.ensures in
-    let h = header c.args.pages.now c.args.lists.now _ e in
-    (in-range c.args.pages.now c.args.lists.now _ e, h.pages-fit, h.lists-fit)
+pub invariant_of-memory : goal.invariant_of-memory
+invariant_of-memory c = record { fit = (header c.args.pages.now c.args.lists.now _ (sym c.in_ok-layout.ensures)).lists-fit }
+
+pub invariant_of-memory-2 : goal.invariant_of-memory-2
+invariant_of-memory-2 c = record { fit = (header c.args.pages.now c.args.lists.now _ (sym c.in_ok-layout.ensures)).pages-fit }
 
 pub returns-in_err-x : goal.returns-in_err-x
 returns-in_err-x c =
     let p = err_from_is_err_and c.from_residual-in_err-x.result c.from_residual-in_err-x.ensures.1 in
-    rw (p.1, p.2) (read-bad _ _ _ (sym c.in_ok-s.ensures) _ _ _ c.in_err-x.ensures)
+    rw (p.1, p.2) (read-bad _ _ _ (sym c.in_ok-layout.ensures) _ _ _ c.in_err-x.ensures)
 
 pub returns-in_default : goal.returns-in_default
-returns-in_default c = read_none _ _ _ (sym c.in_ok-s.ensures) _ _ (located_as c.in_ok-s.s _ _ _ _ _ c.in_default.is c.in_ok-x.ensures)
+returns-in_default c = read_none _ _ _ (sym c.in_ok-layout.ensures) _ _ (located_as c.in_ok-layout.layout.sizes _ _ _ _ _ c.in_default.is c.in_ok-x.ensures)
 
 pub overflow_add-first : goal.overflow_add-first
 overflow_add-first c =
-    let h = located_as c.in_ok-s.s _ _ _ _ _ c.in-Some.is c.in_ok-x.ensures in
-    omega (arith, h.range.small, page-bytes c.in_ok-s.s (in-range c.args.pages.now c.args.lists.now _ (sym c.in_ok-s.ensures)))
+    let h = located_as c.in_ok-layout.layout.sizes _ _ _ _ _ c.in-Some.is c.in_ok-x.ensures in
+    omega (arith, h.range.small, page-bytes c.in_ok-layout.layout.sizes c.in_ok-layout.layout.in_range)
 
 pub returns-then-buffer-first : goal.returns-then-buffer-first
 returns-then-buffer-first c =
-    read_short _ _ _ (sym c.in_ok-s.ensures) _ _ _ (located_as c.in_ok-s.s _ _ _ _ _ c.in-Some.is c.in_ok-x.ensures) c.if-buffer-first.true
+    read_short _ _ _ (sym c.in_ok-layout.ensures) _ _ _ (located_as c.in_ok-layout.layout.sizes _ _ _ _ _ c.in-Some.is c.in_ok-x.ensures) c.if-buffer-first.true
 
 pub copy_name-requires : goal.copy_name-requires
 copy_name-requires c =
-    let there = (header c.args.pages.now c.args.lists.now _ (sym c.in_ok-s.ensures)).pages-fit in
-    let W = (located_as c.in_ok-s.s _ _ _ _ _ c.in-Some.is c.in_ok-x.ensures).range in
+    let there = (header c.args.pages.now c.args.lists.now _ (sym c.in_ok-layout.ensures)).pages-fit in
+    let W = (located_as c.in_ok-layout.layout.sizes _ _ _ _ _ c.in-Some.is c.in_ok-x.ensures).range in
     (record { front = omega (arith, there, W.front); back = omega (arith, there, W.back); lengths = W.lengths }, c.if-buffer-first.false)
 
 pub returns : goal.returns
 returns c =
-    read_name _ _ _ (sym c.in_ok-s.ensures) _ _ _ (located_as c.in_ok-s.s _ _ _ _ _ c.in-Some.is c.in_ok-x.ensures) c.if-buffer-first.false _
+    read_name _ _ _ (sym c.in_ok-layout.ensures) _ _ _ (located_as c.in_ok-layout.layout.sizes _ _ _ _ _ c.in-Some.is c.in_ok-x.ensures) c.if-buffer-first.false _
     c.copy_name.ensures

@@ -1,19 +1,21 @@
 -- The key is a string behind its tag, or a rest behind the lead of its head. Assumes nothing.
-use Rattle.std.proofs.Common.{◌≡◌, ℕ, ◌≤◌, ◌<◌, true, false, ◌++◌, length, refl, sym, ap, subst, ◌∙◌, arith}
+use Rattle.std.proofs.Common.{◌≡◌, ℕ, ◌≤◌, ◌<◌, true, false, ◌++◌, length, refl, sym, ap, ◌∙◌, arith}
 use Rattle.std.proofs.Math.Option.{none}
-use mathlib.Core.Bool.{false≢true}
 use Rattle.slices.specs.Bytes.{Bytes}
 use Rattle.fnv.specs.Fnv.{fnv_of}
 use Rattle.parts.specs.declared.Mode.{Mode}
 use Rattle.parts.specs.declared.Mode.TheVariants.{Raw}
 use Rattle.ranked_pair_dictionary.specs.FrequentId.{fid}
 use Rattle.ranked_pair_dictionary.proofs.Laws.{length-fid, further-le}
+use Rattle.parts.specs.Parts.{bytes_of}
 use Rattle.bytes_key.specs.Keys.{key_bytes}
 use Rattle.layout.specs.declared.Sizes.{Sizes}
+use Rattle.layout.specs.Numbers.{kind_number}
+use Rattle.layout.proofs.Numbers.{kind-below}
 use Rattle.layout.specs.Sizes.{InRange, limit, page_size, kinds}
 use Rattle.layout.proofs.Ranges.{limit-fits}
 use Rattle.model.specs.Names.{entered}
-use Rattle.model.specs.Kinds.{Way, splits, whole, packs, pairs, has_heads, row}
+use Rattle.model.specs.Kinds.{has_heads, row}
 use Rattle.model.specs.Steps.{shape_refusal}
 use Rattle.model.proofs.Legal.{legal-shape}
 use Rattle.kind_table.specs.Rows.{front_mode}
@@ -21,7 +23,7 @@ use Rattle.names.specs.Given.{head_size, rest_behind}
 use Rattle.names.proofs.Second.{shape-second}
 use Rattle.names.proofs.Pairs.{is-pair, rest-short}
 use Rattle.search.specs.Found.{key_behind}
-use Rattle.search.proofs.Keys.{raw-key, string-key, string-paged, lead-paged, paged-fits}
+use Rattle.search.proofs.Keys.{string-key, string-paged, lead-paged, paged-fits}
 use Rattle.enter.proofs.Named.{adds-key}
 use Rattle.enter.proofs.add_str.Goals as goal
 
@@ -34,102 +36,91 @@ string-is s k f first second mode shape e m =
 
 -- ---- a rest behind the lead of its head
 
-raw-front : (w : Way) → has_heads w ≡ true → front_mode w ≡ Raw
-raw-front splits h = refl
-raw-front whole h = refl
-raw-front packs h = absurd (false≢true h)
-raw-front pairs h = refl
-
-lead_is : (k f n : ℕ) (first second lead rest : Bytes) (mode : Mode) → k < kinds → (row k).paired ≡ true → mode ≡ front_mode (row k).way → lead ≡ fid f → n ≡ head_size k first
-    → rest ≡ rest_behind n k first second
-    → key_behind k f ((row k).rest (entered k first second)) ≡ key_bytes mode lead Raw rest
-lead_is k f n first second lead rest mode l p m b e r =
+lead_is : (k f n : ℕ) (first second lead rest : Bytes) → k < kinds → (row k).paired ≡ true → lead ≡ fid f → n ≡ head_size k first → rest ≡ rest_behind n k first second
+    → key_behind k f ((row k).rest (entered k first second)) ≡ lead ++ rest
+lead_is k f n first second lead rest l p b e r =
     let i = is-pair k first second rest n l p e r _ refl in
-    let w = m ∙ raw-front (row k).way p in
-    rw p ((λ j. sym b j ++ i.rested j) ∙ sym (raw-key lead rest) ∙ ap (λ (x : Mode). key_bytes x lead Raw rest) (sym w))
+    rw p (λ j. sym b j ++ i.rested j)
 
 -- It fits a page.
-lead-short : (s : Sizes) (k f : ℕ) (lead rest : Bytes) (mode : Mode) → InRange s → (row k).paired ≡ true → mode ≡ front_mode (row k).way → lead ≡ fid f → length rest ≤ limit s
-    → length (key_bytes mode lead Raw rest) ≤ page_size s
-lead-short s k f lead rest mode R p m b l =
-    subst (λ (y : Bytes). length y ≤ page_size s)
-    (sym (ap (λ (x : Mode). key_bytes x lead Raw rest) (m ∙ raw-front (row k).way p) ∙ raw-key lead rest))
-    (lead-paged s lead rest R (omega (arith, ap length b, length-fid f, further-le f)) l)
+lead-short : (s : Sizes) (f : ℕ) (lead rest : Bytes) → InRange s → lead ≡ fid f → length rest ≤ limit s → length (lead ++ rest) ≤ page_size s
+lead-short s f lead rest R b l = lead-paged s lead rest R (omega (arith, ap length b, length-fid f, further-le f)) l
 
 -- ---- a string, entered
 
-pub enter_name-requires-clause-key : goal.enter_name-requires-clause-key
-enter_name-requires-clause-key c =
-    let a = c.args in
-    let L = c.requires.lent in
-    let R = L.0.ranged in
+pub invariant_of-key : goal.invariant_of-key
+unfolding bytes_of
+invariant_of-key c =
+    let s = c.args.layout.now.sizes in
+    let R = c.args.layout.now.in_range in
+    let a = c.args.name.now in
+    let L = c.requires.fit in
     let K = c.requires.place_ended in
-    let mode = c.front_mode.result in
+    let p = sym (c.if-not-has_heads.ensures ∙ ap has_heads c.of-row.ensures.way) in
+    let m = c.front_mode.ensures ∙ ap front_mode c.of-row.ensures.way in
     record {
-      hashed = K.hashed ∙ ap fnv_of (string-is a.s a.kind K.f a.first.now a.second.now mode L.1 (sym c.has_heads.ensures ∙ c.if-not-has_heads.true) c.front_mode.ensures);
-      fits = paged-fits a.s _ R (string-paged a.s mode a.second.now a.first.now R (omega (arith, (legal-shape _ _ L.1).size)));
+      hashed = rw c.raw.ensures.stored (K.hashed ∙ ap fnv_of (string-is s (kind_number a.kind) K.f a.first.now a.second.now c.front_mode.result L.1 p m));
+      fits = rw c.raw.ensures.stored (paged-fits s _ R (string-paged s c.front_mode.result a.second.now a.first.now R (omega (arith, (legal-shape _ _ L.1).size))));
     }
 
 pub enter_name-requires-clause-head_len_bound : goal.enter_name-requires-clause-head_len_bound
+unfolding bytes_of
 enter_name-requires-clause-head_len_bound c =
-    let a = c.args in
-    let L = c.requires.lent in
-    let R = L.0.ranged in
-    (omega (arith, limit-fits a.s R), string-paged a.s c.front_mode.result a.second.now a.first.now R (omega (arith, (legal-shape _ _ L.1).size)))
+    let s = c.args.layout.now.sizes in
+    let R = c.args.layout.now.in_range in
+    let a = c.args.name.now in
+    (omega (arith, limit-fits s R), rw c.raw.ensures.stored (string-paged s c.front_mode.result a.second.now a.first.now R (omega (arith, (legal-shape _ _ c.requires.fit.1).size))))
 
 pub returns-then-not-has_heads : goal.returns-then-not-has_heads
+unfolding bytes_of
 returns-then-not-has_heads c =
-    let a = c.args in
-    let L = c.requires.lent in
+    let s = c.args.layout.now.sizes in
+    let a = c.args.name.now in
+    let L = c.requires.fit in
     let K = c.requires.place_ended in
-    adds-key a.s a.pages.now a.lists.now (entered a.kind a.first.now a.second.now) L.0 a.x a.place K _ _
-    (string-is a.s a.kind K.f a.first.now a.second.now c.front_mode.result L.1 (sym c.has_heads.ensures ∙ c.if-not-has_heads.true) c.front_mode.ensures)
+    let p = sym (c.if-not-has_heads.ensures ∙ ap has_heads c.of-row.ensures.way) in
+    let m = c.front_mode.ensures ∙ ap front_mode c.of-row.ensures.way in
+    adds-key s c.args.pages.now c.args.lists.now a c.args.x c.args.layout.now.in_range L.0 c.args.place K _
+    (string-is s (kind_number a.kind) K.f a.first.now a.second.now c.front_mode.result L.1 p m)
     _
     _
     _
-    c.enter_name.ensures
+    (rw c.raw.ensures.stored at c.enter_name.ensures)
 
 -- ---- a rest behind a lead, entered
 
-pub enter_name-requires-2-clause-key : goal.enter_name-requires-2-clause-key
-enter_name-requires-2-clause-key c =
-    let a = c.args in
-    let L = c.requires.lent in
-    let R = L.0.ranged in
+pub invariant_of-key-2 : goal.invariant_of-key-2
+invariant_of-key-2 c =
+    let s = c.args.layout.now.sizes in
+    let R = c.args.layout.now.in_range in
+    let a = c.args.name.now in
     let K = c.requires.place_ended in
-    let mode = c.front_mode.result in
-    let lead = c.as_slice.result.now in
-    let rest = c.rest_behind-rest.result.now in
-    let n = c.head_length-n.result in
-    let p : (row a.kind).paired ≡ true = sym c.has_heads.ensures ∙ c.if-not-has_heads.false in
+    let p = sym (c.if-not-has_heads.ensures ∙ ap has_heads c.of-row.ensures.way) in
     let b = c.as_slice.ensures ∙ (K.behind p).1 in
-    let l = rest-short a.kind a.first.now a.second.now _ n (limit a.s) c.rest_behind-rest.ensures (legal-shape _ _ L.1).size in
+    let l = rest-short (kind_number a.kind) a.first.now a.second.now _ c.head_length.result (limit s) c.rest_behind.ensures (legal-shape _ _ c.requires.fit.1).size in
     record {
-      hashed = K.hashed ∙ ap fnv_of (lead_is a.kind K.f n a.first.now a.second.now lead rest mode L.0.known p c.front_mode.ensures b c.head_length-n.ensures.0 c.rest_behind-rest.ensures);
-      fits = paged-fits a.s _ R (lead-short a.s a.kind K.f lead rest mode R p c.front_mode.ensures b l);
+      hashed = rw (c.raw-2.ensures.stored, c.raw-3.ensures.stored) (K.hashed ∙ ap fnv_of (lead_is (kind_number a.kind) K.f _ a.first.now a.second.now _ _ (kind-below a.kind) p b c.head_length.ensures.0 c.rest_behind.ensures));
+      fits = rw (c.raw-2.ensures.stored, c.raw-3.ensures.stored) (paged-fits s _ R (lead-short s K.f _ _ R b l));
     }
 
 pub enter_name-requires-2-clause-head_len_bound : goal.enter_name-requires-2-clause-head_len_bound
 enter_name-requires-2-clause-head_len_bound c =
-    let a = c.args in
-    let L = c.requires.lent in
-    let R = L.0.ranged in
+    let s = c.args.layout.now.sizes in
+    let R = c.args.layout.now.in_range in
+    let a = c.args.name.now in
     let K = c.requires.place_ended in
-    let p : (row a.kind).paired ≡ true = sym c.has_heads.ensures ∙ c.if-not-has_heads.false in
-    let l = rest-short a.kind a.first.now a.second.now _ c.head_length-n.result (limit a.s) c.rest_behind-rest.ensures (legal-shape _ _ L.1).size in (
-      omega (arith, limit-fits a.s R),
-      lead-short a.s a.kind K.f c.as_slice.result.now c.rest_behind-rest.result.now c.front_mode.result R p c.front_mode.ensures (c.as_slice.ensures ∙ (K.behind p).1) l,
-    )
+    let p = sym (c.if-not-has_heads.ensures ∙ ap has_heads c.of-row.ensures.way) in
+    let l = rest-short (kind_number a.kind) a.first.now a.second.now _ c.head_length.result (limit s) c.rest_behind.ensures (legal-shape _ _ c.requires.fit.1).size in
+    (omega (arith, limit-fits s R), rw (c.raw-2.ensures.stored, c.raw-3.ensures.stored) (lead-short s K.f _ _ R (c.as_slice.ensures ∙ (K.behind p).1) l))
 
 pub returns : goal.returns
 returns c =
-    let a = c.args in
-    let L = c.requires.lent in
+    let a = c.args.name.now in
     let K = c.requires.place_ended in
-    let p : (row a.kind).paired ≡ true = sym c.has_heads.ensures ∙ c.if-not-has_heads.false in
-    adds-key a.s a.pages.now a.lists.now (entered a.kind a.first.now a.second.now) L.0 a.x a.place K _ _
-    (lead_is a.kind K.f c.head_length-n.result a.first.now a.second.now c.as_slice.result.now c.rest_behind-rest.result.now c.front_mode.result L.0.known p c.front_mode.ensures (c.as_slice.ensures ∙ (K.behind p).1) c.head_length-n.ensures.0 c.rest_behind-rest.ensures)
+    let p = sym (c.if-not-has_heads.ensures ∙ ap has_heads c.of-row.ensures.way) in
+    adds-key c.args.layout.now.sizes c.args.pages.now c.args.lists.now a c.args.x c.args.layout.now.in_range c.requires.fit.0 c.args.place K _
+    (lead_is (kind_number a.kind) K.f _ a.first.now a.second.now _ _ (kind-below a.kind) p (c.as_slice.ensures ∙ (K.behind p).1) c.head_length.ensures.0 c.rest_behind.ensures)
     _
     _
     _
-    c.enter_name-2.ensures
+    (rw (c.raw-2.ensures.stored, c.raw-3.ensures.stored) at c.enter_name-2.ensures)

@@ -19,5 +19,5 @@ filled l f n m q h e =
 pub returns : goal.returns
 unfolding opened_lists
 returns c =
-    let z = filled c.args.lists.now c.fill.new.self c.list_bytes-n.result (list_bytes c.args.s) c.list_bytes-n.ensures c.requires.1 (c.fill.ensures.after (λ y e. e)) in
+    let z = filled c.args.lists.now c.fill.new.self c.list_bytes-n.result (list_bytes c.args.layout.now.sizes) c.list_bytes-n.ensures c.requires (c.fill.ensures.after (λ y e. e)) in
     cc

@@ -2,7 +2,11 @@
 use Rattle.locate.proofs.locate_entry.Goals as goal
 
 pub returns-in-Whole : goal.returns-in-Whole
-returns-in-Whole c = c.locate_plain.ensures c.args.pages.now c.args.s c.args.lists.now c.requires.in_range.1 c.requires.k_lt_kinds.1
+returns-in-Whole c =
+    let m = c.args.memory.now in
+    c.locate_plain.ensures m.pages.now m.lists.layout.sizes m.lists.bytes.now m.fit c.requires
 
 pub returns-in-Packs : goal.returns-in-Packs
-returns-in-Packs c = c.locate_tagged.ensures c.args.s c.args.lists.now c.requires.in_range.1 c.requires.k_lt_kinds.1
+returns-in-Packs c =
+    let m = c.args.memory.now in
+    c.locate_tagged.ensures m.lists.layout.sizes m.lists.bytes.now m.fit c.requires

@@ -4,6 +4,7 @@ use Rattle.std.specs.Prelude.{Option, Ok}
 use Rattle.std.proofs.lemmas.Result.{err_from_is_err_and}
 use Rattle.slices.specs.Bytes.{Bytes}
 use Rattle.layout.specs.declared.Sizes.{Sizes}
+use Rattle.layout.specs.Numbers.{kind_number}
 use Rattle.bytes_index.specs.declared.Span.{Span}
 use Rattle.bytes_dictionary.specs.Reading.{Lookup, Looked}
 use Rattle.meta_dv_dict.specs.declared.Owner.{Owner}
@@ -26,30 +27,36 @@ looked_as : (s : Sizes) (d k i n : ℕ) (lists : Bytes) (o p : Option Span) → 
 looked_as s d k i n lists o p e f g h = rw (e, f, g) at h
 
 pub returns-in_default : goal.returns-in_default
-returns-in_default c = located-free c.args.s _ _ _ (owned_as c.args.s _ _ _ _ c.in_default.is c.in_ok-kind.ensures)
+returns-in_default c =
+    let m = c.args.memory.now in
+    located-free m.lists.layout.sizes _ _ _ (owned_as m.lists.layout.sizes _ _ _ _ c.in_default.is c.in_ok-kind.ensures)
 
 pub returns-in_err-entry : goal.returns-in_err-entry
 returns-in_err-entry c =
+    let m = c.args.memory.now in
     let p = err_from_is_err_and c.from_residual-in_err-entry.result c.from_residual-in_err-entry.ensures.1 in
     rw (p.1, p.2)
-    (located-bad c.args.s _ _ _ c.requires.1 _ (owned_as c.args.s _ _ _ _ c.in-Some.is c.in_ok-kind.ensures) _
-    (looked c.args.s _ c.in-Some.field-0.kind _ _ c.args.lists.now _ c.main_dictionary-d.ensures.0 c.local_to_entry.ensures c.in_err-entry.ensures))
+    (located-bad m.lists.layout.sizes _ _ _ m.fit _ (owned_as m.lists.layout.sizes _ _ _ _ c.in-Some.is c.in_ok-kind.ensures) _
+    (looked m.lists.layout.sizes _ (kind_number c.in-Some.field-0.kind) _ _ m.lists.bytes.now _ c.of-d.ensures.main_at c.local_to_entry.ensures c.in_err-entry.ensures))
 
 pub returns-in_default-2 : goal.returns-in_default-2
 returns-in_default-2 c =
-    located-nothing c.args.s _ _ _ c.requires.1 _ (owned_as c.args.s _ _ _ _ c.in-Some.is c.in_ok-kind.ensures)
-    (looked_as c.args.s _ c.in-Some.field-0.kind _ _ c.args.lists.now _ _ c.main_dictionary-d.ensures.0 c.local_to_entry.ensures c.in_default-2.is c.in_ok-entry.ensures)
+    let m = c.args.memory.now in
+    located-nothing m.lists.layout.sizes _ _ _ m.fit _ (owned_as m.lists.layout.sizes _ _ _ _ c.in-Some.is c.in_ok-kind.ensures)
+    (looked_as m.lists.layout.sizes _ (kind_number c.in-Some.field-0.kind) _ _ m.lists.bytes.now _ _ c.of-d.ensures.main_at c.local_to_entry.ensures c.in_default-2.is c.in_ok-entry.ensures)
 
 pub returns-in_err-pieces : goal.returns-in_err-pieces
 returns-in_err-pieces c =
+    let m = c.args.memory.now in
     let p = err_from_is_err_and c.from_residual-in_err-pieces.result c.from_residual-in_err-pieces.ensures.1 in
     rw (p.1, p.2)
-    (located-entry c.args.s _ _ _ c.requires.1 _ (owned_as c.args.s _ _ _ _ c.in-Some.is c.in_ok-kind.ensures) _ _
-    (looked_as c.args.s _ c.in-Some.field-0.kind _ _ c.args.lists.now _ _ c.main_dictionary-d.ensures.0 c.local_to_entry.ensures c.in-Some-2.is c.in_ok-entry.ensures)
+    (located-entry m.lists.layout.sizes _ _ _ m.fit _ (owned_as m.lists.layout.sizes _ _ _ _ c.in-Some.is c.in_ok-kind.ensures) _ _
+    (looked_as m.lists.layout.sizes _ (kind_number c.in-Some.field-0.kind) _ _ m.lists.bytes.now _ _ c.of-d.ensures.main_at c.local_to_entry.ensures c.in-Some-2.is c.in_ok-entry.ensures)
     c.in_err-pieces.ensures)
 
 pub returns : goal.returns
 returns c =
-    located-entry c.args.s _ _ _ c.requires.1 _ (owned_as c.args.s _ _ _ _ c.in-Some.is c.in_ok-kind.ensures) _ _
-    (looked_as c.args.s _ c.in-Some.field-0.kind _ _ c.args.lists.now _ _ c.main_dictionary-d.ensures.0 c.local_to_entry.ensures c.in-Some-2.is c.in_ok-entry.ensures)
+    let m = c.args.memory.now in
+    located-entry m.lists.layout.sizes _ _ _ m.fit _ (owned_as m.lists.layout.sizes _ _ _ _ c.in-Some.is c.in_ok-kind.ensures) _ _
+    (looked_as m.lists.layout.sizes _ (kind_number c.in-Some.field-0.kind) _ _ m.lists.bytes.now _ _ c.of-d.ensures.main_at c.local_to_entry.ensures c.in-Some-2.is c.in_ok-entry.ensures)
     c.in_ok-pieces.ensures

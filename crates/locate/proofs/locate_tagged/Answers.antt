@@ -20,34 +20,34 @@ long entry cut x end n e q f = long-lies cut end n (rw q at (form entry cut (Som
 
 pub overflow_add-tag : goal.overflow_add-tag
 overflow_add-tag c =
-    omega (arith, lies-within _ _ _ c.requires.2 (short _ _ _ _ c.id_to_bytes.ensures c.in-Some-Short.field-0-is c.in-Some-Short.ensures))
+    omega (arith, lies-within _ _ _ c.requires.1 (short _ _ _ _ c.id_to_bytes.ensures c.in-Some-Short.field-0-is c.in-Some-Short.ensures))
 
 pub overflow_add-end : goal.overflow_add-end
 overflow_add-end c =
-    omega (arith, lies-within _ _ _ c.requires.2 (long _ _ _ _ _ c.id_to_bytes.ensures c.in-Some-Long.field-0-is c.in-Some-Long.ensures))
+    omega (arith, lies-within _ _ _ c.requires.1 (long _ _ _ _ _ c.id_to_bytes.ensures c.in-Some-Long.field-0-is c.in-Some-Long.ensures))
 
 pub tagged-requires : goal.tagged-requires
 tagged-requires c =
-    let h = lies-within _ _ _ c.requires.2 (short _ _ _ _ c.id_to_bytes.ensures c.in-Some-Short.field-0-is c.in-Some-Short.ensures) in
-    (h, omega (arith, c.requires.2), omega (arith, h))
+    let h = lies-within _ _ _ c.requires.1 (short _ _ _ _ c.id_to_bytes.ensures c.in-Some-Short.field-0-is c.in-Some-Short.ensures) in
+    (h, omega (arith, c.requires.1), omega (arith, h))
 
 pub tagged-requires-in-Some-Long : goal.tagged-requires-in-Some-Long
 tagged-requires-in-Some-Long c =
-    let h = lies-within _ _ _ c.requires.2 (long _ _ _ _ _ c.id_to_bytes.ensures c.in-Some-Long.field-0-is c.in-Some-Long.ensures) in
-    (h, omega (arith, c.requires.2), omega (arith, h))
+    let h = lies-within _ _ _ c.requires.1 (long _ _ _ _ _ c.id_to_bytes.ensures c.in-Some-Long.field-0-is c.in-Some-Long.ensures) in
+    (h, omega (arith, c.requires.1), omega (arith, h))
 
 pub returns-in-Some-Short : goal.returns-in-Some-Short
 returns-in-Some-Short c = λ s lists there fits.
     rw c.tagged.ensures
-    (located-tagged s _ lists _ _ _ c.requires.0 there fits c.requires.1 _ _ _ _
+    (located-tagged s _ lists c.args.kind _ _ there fits c.requires.0 _ _ _ _
     (short _ _ _ _ c.id_to_bytes.ensures c.in-Some-Short.field-0-is c.in-Some-Short.ensures))
 
 pub returns-in-Some-Long : goal.returns-in-Some-Long
 returns-in-Some-Long c = λ s lists there fits.
     rw c.tagged-in-Some-Long.ensures
-    (located-tagged s _ lists _ _ _ c.requires.0 there fits c.requires.1 _ _ _ _
+    (located-tagged s _ lists c.args.kind _ _ there fits c.requires.0 _ _ _ _
     (long _ _ _ _ _ c.id_to_bytes.ensures c.in-Some-Long.field-0-is c.in-Some-Long.ensures))
 
 pub returns-in-None : goal.returns-in-None
 returns-in-None c = λ s lists there fits.
-    located-cut s _ lists _ _ _ c.requires.0 there fits c.requires.1 (form _ _ _ c.id_to_bytes.ensures c.in-None.ensures)
+    located-cut s _ lists c.args.kind _ _ there fits c.requires.0 (form _ _ _ c.id_to_bytes.ensures c.in-None.ensures)

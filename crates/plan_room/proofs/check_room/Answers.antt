@@ -7,17 +7,15 @@ use Rattle.plan_room.proofs.check_room.Goals as goal
 
 pub returns-in_err-n : goal.returns-in_err-n
 returns-in_err-n c =
-    let a = c.args in
     let p = err_from_is_err_and c.from_residual.result c.from_residual.ensures.1 in
-    rw (p.1, p.2) (uncounted-main a.s a.lists.now a.k a.f _ (counted-main a.s a.lists.now a.k _ _ c.main_dictionary.ensures.0 c.in_err-n.ensures))
+    rw (p.1, p.2) (uncounted-main _ _ _ _ _ (counted-main _ _ _ _ _ c.of.ensures.main_at c.in_err-n.ensures))
 
-pub returns-then-s-n : goal.returns-then-s-n
-returns-then-s-n c =
-    let a = c.args in
-    full-list _ (counted-main a.s a.lists.now a.k _ _ c.main_dictionary.ensures.0 c.in_ok-n.ensures)
-    (elim c.then-s-n.either [ inl x ↦ inl x | inr x ↦ inr x.1 ])
+pub returns-then-e-n : goal.returns-then-e-n
+returns-then-e-n c =
+    full-list _ (counted-main _ _ _ _ _ c.of.ensures.main_at c.in_ok-n.ensures)
+    (elim c.then-e-n.either [ inl x ↦ inl x | inr x ↦ inr x.1 ])
 
 pub returns-in_err-untaken : goal.returns-in_err-untaken
 returns-in_err-untaken c =
     let p = err_from_is_err_and c.from_residual-in_err-untaken.result c.from_residual-in_err-untaken.ensures.1 in
-    rw (p.1, p.2) (unpaged c.args.s c.args.lists.now _ _ _ (sym c.in_err-untaken.ensures))
+    rw (p.1, p.2) (unpaged _ _ _ _ _ (sym c.in_err-untaken.ensures))

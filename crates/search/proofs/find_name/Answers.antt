@@ -1,8 +1,10 @@
 -- A string is searched by its key, any other name by its head and its rest. Assumes nothing.
-use Rattle.std.proofs.Common.{sym, ◌∙◌}
+use Rattle.std.proofs.Common.{sym, ap, ◌∙◌}
 use Rattle.layout.specs.Sizes.{limit}
-use Rattle.model.specs.Names.{entered}
+use Rattle.layout.specs.Numbers.{kind_number}
+use Rattle.model.specs.Kinds.{has_heads}
 use Rattle.model.proofs.Legal.{legal-shape}
+use Rattle.names.specs.Given.{given}
 use Rattle.names.proofs.Second.{shape-second}
 use Rattle.names.proofs.Pairs.{rest-short}
 use Rattle.search.proofs.Ascii.{pair-ascii}
@@ -10,17 +12,16 @@ use Rattle.search.proofs.find_name.Goals as goal
 
 pub find_pair-requires : goal.find_pair-requires
 find_pair-requires c =
-    let a = c.args in
-    let l = (legal-shape _ _ c.requires.1).size in (
-      c.requires.0,
-      sym c.has_heads.ensures ∙ c.if-not-has_heads.false,
-      rest-short a.kind a.first.now a.second.now _ c.head_length-n.result (limit a.s) c.rest_behind-rest.ensures l,
+    let n = c.args.name.now in
+    let l = (legal-shape _ _ c.requires).size in (
+      sym (c.has_heads.ensures ∙ ap has_heads c.of.ensures.way) ∙ c.if-not-has_heads.false,
+      rest-short (kind_number n.kind) n.first.now n.second.now _ c.head_length-n.result (limit c.args.memory.now.lists.layout.sizes) c.rest_behind-rest.ensures l,
     )
 
 pub returns-clause-ascii : goal.returns-clause-ascii
 returns-clause-ascii c =
-    let a = c.args in
+    let n = c.args.name.now in
     λ q.
-    pair-ascii a.kind a.first.now a.second.now _ c.head_length-n.result c.head_length-n.ensures.0 c.head_length-n.ensures.1 c.rest_behind-rest.ensures
-    (shape-second a.s (entered a.kind a.first.now a.second.now) c.requires.1)
+    pair-ascii (kind_number n.kind) n.first.now n.second.now _ c.head_length-n.result c.head_length-n.ensures.0 c.head_length-n.ensures.1 c.rest_behind-rest.ensures
+    (shape-second c.args.memory.now.lists.layout.sizes (given n) c.requires)
     (c.find_pair.ensures.ascii q)

@@ -11,6 +11,7 @@ use Rattle.parts.specs.declared.Mode.TheVariants.{Raw}
 use Rattle.parts.specs.Parts.{bytes_of}
 use Rattle.utf8.specs.Text.{is_text}
 use Rattle.layout.specs.declared.Sizes.{Sizes}
+use Rattle.layout.specs.Numbers.{kind_number}
 use Rattle.bytes_key.specs.Keys.{key_bytes}
 use Rattle.kind_table.specs.Rows.{front_mode}
 use Rattle.model.specs.Names.{entered}
@@ -53,31 +54,35 @@ no_tag : (tag : Bytes) → length tag ≡ 0 → is_text tag ≡ true
 no_tag [] e = no_bytes
 no_tag (x ∷ tag) e = absurd (omega arith)
 
-pub find_key-requires : goal.find_key-requires
-find_key-requires c =
-    let a = c.args in
+pub invariant_of-key : goal.invariant_of-key
+unfolding bytes_of
+invariant_of-key c =
+    let L = c.args.memory.now.lists.layout in
+    let text = c.args.name.now.first.now in
+    let tag = c.args.name.now.second.now in
     let mode = c.front_mode-mode.result in
-    let l = (legal-shape _ _ c.requires.1).size in (
-      c.requires.0,
-      c.main_dictionary.ensures.0,
-      record {
-        hashed = hashed mode a.tag.now a.text.now _ _ c.hash_on.ensures c.scan-x.ensures.0;
-        fits = paged-fits a.s _ c.requires.0.ranged (string-paged a.s _ a.tag.now a.text.now c.requires.0.ranged (omega (arith, l)));
-      },
-    )
+    let l = (legal-shape _ _ c.requires.0).size in
+    record {
+      hashed = rw c.raw.ensures.stored (hashed mode tag text _ _ c.hash_on.ensures c.scan-x.ensures.0);
+      fits = rw c.raw.ensures.stored (paged-fits L.sizes _ L.in_range (string-paged L.sizes mode tag text L.in_range (omega (arith, l))));
+    }
 
 pub returns-clause-ended : goal.returns-clause-ended
+unfolding bytes_of
 returns-clause-ended c =
-    let a = c.args in
+    let m = c.args.memory.now in
+    let n = c.args.name.now in
     let mode = c.front_mode-mode.result in
-    ended a.s a.pages.now a.lists.now a.k a.text.now a.tag.now mode _ _ c.requires.1 c.requires.2 c.front_mode-mode.ensures
-    (hashed mode a.tag.now a.text.now _ _ c.hash_on.ensures c.scan-x.ensures.0)
-    c.find_key.ensures
+    ended m.lists.layout.sizes m.pages.now m.lists.bytes.now (kind_number n.kind) n.first.now n.second.now mode _ _ c.requires.0 c.requires.1
+    (c.front_mode-mode.ensures ∙ ap front_mode c.of-row.ensures.way)
+    (hashed mode n.second.now n.first.now _ _ c.hash_on.ensures c.scan-x.ensures.0)
+    (rw c.raw.ensures.stored at c.find_key.ensures)
 
 pub returns-clause-ascii : goal.returns-clause-ascii
 returns-clause-ascii c =
     λ p.
+    let n = c.args.name.now in
     elim c.if-tag-eq0.branch [
-      | then-tag-eq0 w ↦ (ascii-text c.args.text.now 0 (subst (λ (n : ℕ). n < 128) c.scan-x.ensures.1 (ltb-true _ _ (sym w.result-is ∙ p))), no_tag c.args.tag.now w.if-tag-eq0.true)
+      | then-tag-eq0 w ↦ (ascii-text n.first.now 0 (subst (λ (n : ℕ). n < 128) c.scan-x.ensures.1 (ltb-true _ _ (sym w.result-is ∙ p))), no_tag n.second.now w.if-tag-eq0.true)
       | else-tag-eq0 w ↦ absurd (w.if-tag-eq0.false (eqb-true _ _ (sym w.result-is ∙ p)))
     ]

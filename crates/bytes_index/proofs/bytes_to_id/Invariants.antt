@@ -2,17 +2,19 @@
 use Rattle.std.proofs.Common.{ℕ, ◌-◌, ◌≤◌, ◌<◌, ◌≡◌, get_or}
 use Rattle.words.specs.Words.{word_at, quad_at}
 use Rattle.fnv.specs.Fnv.{fnv_of}
-use Rattle.parts.specs.Parts.{bytes_of}
+use Rattle.parts.specs.Parts.{part_bytes}
 use Rattle.layout.specs.Fields.{entry_at, place_at}
-use Rattle.bytes_key.specs.Keys.{bytes_in, Agree}
+use Rattle.layout.specs.Numbers.{dictionary_number}
+use Rattle.bytes_key.specs.Keys.{Agree}
+use Rattle.bytes_key.specs.KeyBytes.{bytes_in}
 use Rattle.bytes_index.specs.Place.{place_after}
 use Rattle.bytes_index.proofs.Index.{PlacePassed}
-use Rattle.bytes_index.proofs.probe_index.Given as goal
+use Rattle.bytes_index.proofs.bytes_to_id.Given as goal
 
 abbrev pub invariant-loop-left : goal.invariant-loop-left
 invariant-loop-left l = record {
   within : l.left ≤ l.n;
-  equal : Agree l.pages l.end (bytes_of l.fn.key.rest l.fn.rest) l.left l.n;
+  equal : Agree l.pages l.end (part_bytes l.fn.key.parts.rest) l.left l.n;
 }
 
 abbrev pub decreases-loop-left : goal.decreases-loop-left
@@ -22,9 +24,9 @@ abbrev pub invariant-probe : goal.invariant-probe
 invariant-probe l = record {
   steps : l.t ≤ l.m;
   place : l.j < l.m;
-  here : place_after l.m (fnv_of (bytes_in l.fn.key l.fn.front l.fn.rest)) l.t ≡ l.j;
-  passed : (k : ℕ) → k < l.t → PlacePassed l.s (λ a. get_or l.pages a 0) (λ i. word_at l.lists (entry_at l.s l.d i)) (bytes_in l.fn.key l.fn.front l.fn.rest)
-      (quad_at l.lists (place_at l.s l.d (place_after l.m (fnv_of (bytes_in l.fn.key l.fn.front l.fn.rest)) k)));
+  here : place_after l.m (fnv_of (bytes_in l.fn.key)) l.t ≡ l.j;
+  passed : (k : ℕ) → k < l.t → PlacePassed l.lists.layout.sizes (λ a. get_or l.pages a 0) (λ i. word_at l.lists.bytes.now (entry_at l.lists.layout.sizes (dictionary_number l.d) i)) (bytes_in l.fn.key)
+      (quad_at l.lists.bytes.now (place_at l.lists.layout.sizes (dictionary_number l.d) (place_after l.m (fnv_of (bytes_in l.fn.key)) k)));
 }
 
 abbrev pub decreases-probe : goal.decreases-probe

@@ -1,7 +1,7 @@
 -- The sum is the one that specs/ has.
 use Rattle.std.proofs.Common.{refl}
 use Rattle.layout.specs.Fields.{dict_at}
-use Rattle.layout.proofs.dict_at.Goals as goal
+use Rattle.layout.proofs.lent.Layout.dict_at.Goals as goal
 
 pub returns : goal.returns
 unfolding dict_at
