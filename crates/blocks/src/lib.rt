@@ -12,7 +12,8 @@ ghost use Rattle.blocks.specs.Tables.{owner_in};
 ghost use Rattle.blocks.specs.Answers.{found, Allocates, held_by, block_written};
 
 use layout::lent::{Layout, Lists};
-use layout::{KINDS, Kind, OWNERS};
+use layout::packed::BlockOwner;
+use layout::{KINDS, Kind};
 use refusals::Refusal;
 use words::WORD;
 
@@ -21,6 +22,7 @@ use words::WORD;
 pub struct LocalId(pub usize);
 
 // How many numbers a block has.
+// Kept: apart from `Layout::page_size`, which is another power of two. One function for both would take the power, and callers would lose the names.
 pub fn block_size(layout: &Layout) -> usize
     ensures { (result ≡ 2 ^ layout.now.sizes.w) × (0 < result) × (result ≤ 16777216) }
 {
@@ -38,6 +40,8 @@ fn first_free(lists: &Lists<'_>, from: usize) -> Option<usize>
 }
 
 // The global block that holds the kind's local block l. Unopened: the memory is no dictionary's.
+// Kept: that a block is below the layout's count is asked here and below, and in `meta_dv_dict`. A type of such blocks would hold a layout, which had to be shown to
+// be the caller's: one clause more.
 pub fn held_in(lists: &Lists<'_>, kind: Kind, l: usize) -> Result<usize, Refusal>
     requires { l < lists.now.layout.sizes.b }
     ensures { result ≡ held_by lists.now.layout.sizes.b (word_at lists.now.bytes.now (local_at lists.now.layout.sizes (kind_number kind) l)) }
@@ -89,5 +93,6 @@ pub fn take_block(lists: &mut [u8], layout: &Layout, kind: Kind, local: LocalId,
     let k = usize::from(kind);
     let l = n / block_size(layout);
     words::put_number::<WORD>(lists, layout.blocks_at(k) + l, g + 1);
-    words::put_number::<WORD>(lists, layout.blocks_at(KINDS) + g, 1 + k + OWNERS * l);
+    let owner = BlockOwner { kind: k, block: l };
+    words::put_number::<WORD>(lists, layout.blocks_at(KINDS) + g, owner.word());
 }

@@ -8,6 +8,10 @@ use Rattle.bytes_buffer.specs.declared.Spot.TheVariants.{Current, Next}
 use Rattle.refusals.specs.declared.Refusal.{Refusal}
 use Rattle.refusals.specs.declared.Refusal.TheVariants.{Unopened, NoPage}
 
+-- A word that counts something, of which there are `most`.
+abbrev pub up_to : ℕ → ℕ → Result ℕ Refusal
+up_to most w = cond (leb w most) (Ok w) (Err Unopened)
+
 -- The lowest untaken page; n if none is left.
 unfoldable pub lowest_of : Sizes → ℕ → Result ℕ Refusal
 lowest_of s w = cond (leb w s.n) (Ok w) (Err Unopened)

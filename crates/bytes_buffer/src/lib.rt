@@ -1,15 +1,16 @@
 // Pages (Nemo's bytes_buffer.rs): where the next entry goes. It only reads; a page's words and its own bytes are written elsewhere.
 #![tactic(auto)]
 
-ghost use Rattle.std.specs.Prelude.{◌≡◌, ◌+◌, ◌^◌, ◌≤◌, ◌<◌};
+ghost use Rattle.std.specs.Prelude.{◌≡◌, ◌+◌, ◌*◌, ◌^◌, ◌≤◌, ◌<◌, length};
 ghost use Rattle.words.specs.Words.{word_at};
 ghost use Rattle.layout.specs.Sizes.{page_size};
 ghost use Rattle.layout.specs.Numbers.{dictionary_number};
 ghost use Rattle.layout.specs.Fields.{untaken_at};
-ghost use Rattle.bytes_buffer.specs.Spots.{lowest_of, next_of, spot_in, InPages, untaken_after};
+ghost use Rattle.bytes_buffer.specs.Spots.{up_to, lowest_of, next_of, spot_in, InPages, untaken_after};
 
 use layout::lent::Lists;
-use layout::{CURRENT, Dictionary, OFFSETS, OWNERS, PAGES, STRIDE, Sizes, UNTAKEN};
+use layout::packed::PageState;
+use layout::{CURRENT, Dictionary, PAGES, STRIDE, Sizes, UNTAKEN};
 use refusals::Refusal;
 use words::WORD;
 
@@ -20,18 +21,25 @@ pub enum Spot {
     Next(usize),
 }
 
+// A word of the lists that counts something, of which there are `most`. Unopened: the word is no dictionary's.
+pub fn word_up_to(lists: &Lists<'_>, i: usize, most: usize) -> Result<usize, Refusal>
+    requires { 8 * i + 8 ≤ length lists.now.bytes.now }
+    ensures { result ≡ up_to most (word_at lists.now.bytes.now i) }
+{
+    let w = words::number_at::<WORD>(lists.bytes, i);
+    if w <= most {
+        return Ok(w);
+    }
+    Err(Refusal::Unopened)
+}
+
 // The lowest untaken page; n if none is left. Unopened: the word is no dictionary's.
 // Kept: n for none. It is the word as memory holds it, and a plan counts on from it. An Option would be made of it and turned back into it.
 #[tactic(auto, unfolding(crate::specs::Spots::lowest_of, layout::specs::Sizes::list_bytes))]
 pub fn untaken(lists: &Lists<'_>) -> Result<usize, Refusal>
     ensures { result ≡ lowest_of lists.now.layout.sizes (word_at lists.now.bytes.now untaken_at) }
 {
-    let w = words::number_at::<WORD>(lists.bytes, UNTAKEN);
-    let n = lists.layout.sizes.n;
-    if w <= n {
-        return Ok(w);
-    }
-    Err(Refusal::Unopened)
+    word_up_to(lists, UNTAKEN, lists.layout.sizes.n)
 }
 
 // One more page, if one is left.
@@ -48,6 +56,7 @@ fn next(s: Sizes, untaken: usize) -> Result<Spot, Refusal>
 
 // Where an entry of len bytes goes in dictionary d. NoPage: no page is left. Unopened: the words are no dictionary's. It only reads: one add may plan two
 // entries, the second with the next untaken page.
+// Kept: the length is asked to be at most a page's, here and in the plans of an add. A type of such lengths would hold the sizes too, which stand in the lists already.
 #[tactic(auto, unfolding(layout::specs::Sizes::list_bytes))]
 pub fn plan(lists: &Lists<'_>, d: Dictionary, untaken: usize, len: usize) -> Result<Spot, Refusal>
     requires { len ≤ page_size lists.now.layout.sizes }
@@ -64,7 +73,7 @@ pub fn plan(lists: &Lists<'_>, d: Dictionary, untaken: usize, len: usize) -> Res
         return Err(Refusal::Unopened);
     }
     let page = current - 1;
-    let used = words::number_at::<WORD>(lists.bytes, PAGES + page) / OWNERS % OFFSETS;
+    let used = PageState::from(words::number_at::<WORD>(lists.bytes, PAGES + page)).used;
     let size = lists.layout.page_size();
     if size < used {
         return Err(Refusal::Unopened);

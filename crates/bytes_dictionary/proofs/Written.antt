@@ -12,7 +12,7 @@ use Rattle.bytes_buffer.specs.declared.Spot.{Spot}
 use Rattle.bytes_buffer.specs.declared.Spot.TheVariants.{Current, Next}
 use Rattle.page_words.specs.Written.{extended_page, took_page}
 use Rattle.bytes_buffer.specs.Spots.{InPages}
-use Rattle.bytes_entry.specs.declared.Extent.{Extent}
+use Rattle.layout.specs.declared.packed.Extent.{Extent}
 use Rattle.bytes_entry.specs.Written.{entry_written}
 use Rattle.bytes_dictionary.specs.Written.{pages_after, lists_after, page_at, offset_at, HasRoom}
 

@@ -1,23 +1,22 @@
 // Inserts and reads a dictionary's entries (Nemo's bytes_dictionary.rs). The search is in bytes_index, the writes of one entry are in bytes_entry.
 #![tactic(auto)]
 
-ghost use Rattle.std.specs.Prelude.{◌≡◌, ◌+◌, ◌*◌, ◌≤◌, ◌<◌, length, take, drop};
+ghost use Rattle.std.specs.Prelude.{◌≡◌, ◌*◌, ◌<◌, length};
 ghost use Rattle.words.specs.Words.{word_at};
 ghost use Rattle.layout.specs.Numbers.{dictionary_number};
 ghost use Rattle.layout.specs.Fields.{count_at};
 ghost use Rattle.layout.specs.Lent.{Fit};
 ghost use Rattle.bytes_key.specs.KeyBytes.{bytes_in};
-ghost use Rattle.bytes_dictionary.specs.Written.{pages_after, lists_after, HasRoom, page_at, offset_at, pages_with, lists_with, HasRoomIf};
-ghost use Rattle.bytes_dictionary.specs.Reading.{count_in, Looked};
+ghost use Rattle.bytes_dictionary.specs.Written.{pages_after, lists_after, HasRoom, page_at, offset_at};
+ghost use Rattle.bytes_dictionary.specs.Reading.{count_in, entry_given, Looked};
 
 use bytes_buffer::Spot;
-use bytes_entry::{Extent, NewEntry};
-use bytes_index::Span;
+use bytes_entry::NewEntry;
 use bytes_key::Key;
-use layout::lent::{Layout, Lists};
+use layout::lent::{Layout, Lists, Memory};
+use layout::packed::Extent;
 use layout::{COUNT, Dictionary, STRIDE};
 use refusals::Refusal;
-use words::WORD;
 
 // An entry's number in its dictionary.
 #[derive(Clone, Copy)]
@@ -28,12 +27,7 @@ pub struct EntryId(pub usize);
 pub fn count(lists: &Lists<'_>, d: Dictionary) -> Result<usize, Refusal>
     ensures { result ≡ count_in lists.now.layout.sizes (word_at lists.now.bytes.now (count_at (dictionary_number d))) }
 {
-    let n = words::number_at::<WORD>(lists.bytes, COUNT + STRIDE * usize::from(d));
-    let e = lists.layout.sizes.e;
-    if n <= e {
-        return Ok(n);
-    }
-    Err(Refusal::Unopened)
+    bytes_buffer::word_up_to(lists, COUNT + STRIDE * usize::from(d), lists.layout.sizes.e)
 }
 
 // Where an entry's bytes lie that goes to a spot.
@@ -50,8 +44,8 @@ fn extent_at(spot: Spot, len: usize) -> Extent
     }
 }
 
-// Writes a fresh key at a spot. It cannot fail.
-fn insert_at(
+// Writes a fresh key at its planned spot. It cannot fail.
+pub fn insert(
     pages: &mut [u8],
     lists: &mut [u8],
     layout: &Layout,
@@ -73,43 +67,19 @@ fn insert_at(
     }
 }
 
-// Writes a fresh key at its planned spot. It cannot fail. Without a spot it writes nothing.
-pub fn insert(
-    pages: &mut [u8],
-    lists: &mut [u8],
-    layout: &Layout,
-    key: &Key<'_, '_>,
-    x: NewEntry,
-    spot: Option<Spot>,
-)
-    requires fit { Fit layout.now.sizes pages.old lists.old × (x.n < layout.now.sizes.e) × (x.place < 2 * layout.now.sizes.e) }
-    requires has_room { HasRoomIf layout.now.sizes (length (bytes_in key.now)) spot }
-    ensures pages { pages.new ≡ pages_with layout.now.sizes pages.old spot (bytes_in key.now) }
-    ensures lists { lists.new ≡ lists_with layout.now.sizes lists.old (dictionary_number key.now.d) x.n x.place spot x.stamp (bytes_in key.now) }
-{
-    if let Some(spot) = spot {
-        insert_at(pages, lists, layout, key, x, spot);
-    }
-}
-
-// Where an entry lies in the pages. None: its number is not below the count. Unopened: the memory is no dictionary's.
-pub fn look_up(lists: &Lists<'_>, d: Dictionary, id: EntryId) -> Result<Option<Span>, Refusal>
-    ensures { Looked lists.now.layout.sizes (dictionary_number d) id.0 lists.now.bytes.now result }
+// The bytes of an entry. None: its number is not below the count. Unopened: the memory is no dictionary's.
+pub fn id_to_bytes<'p>(
+    memory: &Memory<'_, 'p>,
+    d: Dictionary,
+    id: EntryId,
+) -> Result<Option<&'p [u8]>, Refusal>
+    ensures { Looked memory.now.lists.layout.sizes (dictionary_number d) id.0 memory.now.pages.now memory.now.lists.bytes.now (entry_given result) }
 {
     let i = id.0;
-    let n = count(lists, d)?;
+    let n = count(&memory.lists, d)?;
     if n <= i {
         return Ok(None);
     }
-    let span = bytes_index::entry(lists, d, i)?;
-    Ok(Some(span))
-}
-
-// The bytes of an entry that lies there.
-pub fn id_to_bytes(pages: &[u8], span: Span) -> &[u8]
-    requires { span.at + span.len ≤ length pages.now }
-    ensures { result.now ≡ take span.len (drop span.at pages.now) }
-{
-    let end = span.at + span.len;
-    &pages[span.at..end]
+    let stored = bytes_index::entry(memory, d, i)?;
+    Ok(Some(stored))
 }

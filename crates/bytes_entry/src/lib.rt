@@ -5,14 +5,15 @@ ghost use Rattle.std.specs.Prelude.{◌≡◌, ◌+◌, ◌*◌, ◌≤◌, ◌<
 ghost use Rattle.std.proofs.lemmas.List.Edits.{sets};
 ghost use Rattle.layout.specs.Sizes.{page_size, list_bytes};
 ghost use Rattle.layout.specs.Numbers.{dictionary_number};
-ghost use Rattle.layout.specs.Fields.{entry_word, place_word};
+ghost use Rattle.layout.specs.Fields.{place_word};
 ghost use Rattle.layout.specs.Lent.{Fit};
 ghost use Rattle.bytes_key.specs.KeyBytes.{stored};
 ghost use Rattle.bytes_entry.specs.Written.{entry_written};
 
 use bytes_key::Parts;
 use layout::lent::Layout;
-use layout::{COUNT, Dictionary, ENTRY_NUMBERS, LENGTH, PAGE_NUMBERS, STRIDE};
+use layout::packed::{Extent, IndexPlace};
+use layout::{COUNT, Dictionary, STRIDE};
 use words::{QUAD, WORD};
 
 // Writes a key at the start of its page's tail: its front, and the rest behind it.
@@ -25,40 +26,21 @@ fn write_tail(tail: &mut [u8], parts: &Parts<'_, '_>)
     parts.rest.write(&mut tail[m..]);
 }
 
-// Writes a key at `at` in the pages. Its page ends at `end`. The byte writer is lent only the tail from `at` to `end`, no byte of another page.
-fn write_key(pages: &mut [u8], at: usize, end: usize, parts: &Parts<'_, '_>)
-    requires { (at + length (stored parts.now) ≤ end) × (end ≤ length pages.old) }
-    ensures { pages.new ≡ sets pages.old at (stored parts.now) }
-{
-    write_tail(&mut pages[at..end], parts);
-}
-
-// Where an entry lies: its page, its offset there, and its length.
-#[derive(Clone, Copy)]
-pub struct Extent {
-    pub page: usize,
-    pub offset: usize,
-    pub len: usize,
-}
-
-// The same in one word.
-fn entry_word(lies: Extent) -> usize
-    requires { (lies.page < 1024) × (lies.offset ≤ 1048576) × (lies.len ≤ 1048576) }
-    ensures { result ≡ entry_word lies.page lies.offset lies.len }
-{
-    lies.page + PAGE_NUMBERS * lies.offset + LENGTH * lies.len
-}
-
 // The value of the index place of entry number n, whose key has the hash h.
 fn place_word(n: usize, h: u32) -> usize
     requires { n < 1048576 }
     ensures { result ≡ place_word n h }
 {
-    n + 1 + ENTRY_NUMBERS * bytes_key::top_bits(h)
+    let place = IndexPlace {
+        entry: n + 1,
+        top: bytes_key::top_bits(h),
+    };
+    place.quad()
 }
 
 // A fresh entry: its number in its dictionary, the index place that names it, and its stamp.
-// Kept: each writer asks that number and place are below those of the layout. It is a fact of two values, and an entry that holds its layout is no plainer.
+// Kept: each writer asks that number and place are below those of the layout, and so do `commit` and `enter` for a name and its head. An entry that held a layout
+// would have to be the same layout as the writer's, which is one clause more.
 #[derive(Clone, Copy)]
 pub struct NewEntry {
     pub n: usize,
@@ -77,13 +59,14 @@ fn write_entry(lists: &mut [u8], layout: &Layout, d: Dictionary, h: u32, x: NewE
     let n = x.n;
     let d = usize::from(d);
     let base = layout.dict_at(d);
-    words::put_number::<WORD>(lists, base + n, entry_word(lies));
+    words::put_number::<WORD>(lists, base + n, lies.word());
     words::put_number::<WORD>(lists, base + (e + n), x.stamp);
     words::put_number::<QUAD>(lists, 2 * (base + 2 * e) + x.place, place_word(n, h));
     words::put_number::<WORD>(lists, COUNT + STRIDE * d, n + 1);
 }
 
 // Writes an entry's bytes and its words.
+// Kept: the dictionary, the hash and the parts of a key beside each other. A key has the hash of its bytes, which nothing here asks.
 #[tactic(auto, using(crate::proofs::Inside::page_in))]
 pub fn place_entry(
     pages: &mut [u8],
@@ -102,6 +85,7 @@ pub fn place_entry(
 {
     let size = layout.page_size();
     let start = lies.page * size;
-    write_key(pages, start + lies.offset, start + size, parts);
+    // The byte writer is lent only the rest of the page, no byte of another one.
+    write_tail(&mut pages[start + lies.offset..start + size], parts);
     write_entry(lists, layout, d, h, x, lies);
 }

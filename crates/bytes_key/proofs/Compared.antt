@@ -1,4 +1,4 @@
--- The comparison of a rest with the bytes before `end`: none agree, or all are compared at once. Assumes nothing.
+-- The comparison of a rest with the last stored bytes: none agree, or all are compared at once. Assumes nothing.
 use mathlib.Core.Path.{◌≡◌, sym, ap, ◌∙◌}
 use mathlib.Core.Bool.{true, false}
 use Prim.Native.Nat.{ℕ, ◌+◌, ◌-◌, ◌≤◌, ◌<◌}
@@ -21,18 +21,18 @@ raw mode s e = rw e
 pub no_more : (pages : Bytes) (end : ℕ) (rest : Bytes) (left : ℕ) → (Agree pages end rest 0 (length rest) → ⊥) → Agreeing pages end rest left 0
 no_more pages end rest left h = record { within = omega arith; same = λ k l u. absurd (omega arith); differ = λ z. h }
 
--- The part of the pages that the rest is compared with.
-module _ (pages : Bytes) (end : ℕ) (rest : Bytes) (fits : length rest ≤ end) (inside : end ≤ length pages) where
+-- The end of the stored bytes that the rest is compared with.
+module _ (stored rest : Bytes) (fits : length rest ≤ length stored) where
   part : Bytes
-  part = take (end - (end - length rest)) (drop (end - length rest) pages)
+  part = take (length stored - (length stored - length rest)) (drop (length stored - length rest) stored)
 
-  part-byte : (i : ℕ) → i < length rest → get_or part i 0 ≡ get_or pages (end - (length rest - i)) 0
+  part-byte : (i : ℕ) → i < length rest → get_or part i 0 ≡ get_or stored (length stored - (length rest - i)) 0
   unfolding part
   part-byte i l =
-      let e : end - length rest + i ≡ end - (length rest - i) = omega arith in
-      get_or-take (end - (end - length rest)) (drop (end - length rest) pages) i 0 (omega arith) ∙ get_or-drop (end - length rest) pages i 0 ∙ ap (λ (x : ℕ). get_or pages x 0) e
+      let e : length stored - length rest + i ≡ length stored - (length rest - i) = omega arith in
+      get_or-take (length stored - (length stored - length rest)) (drop (length stored - length rest) stored) i 0 (omega arith) ∙ get_or-drop (length stored - length rest) stored i 0 ∙ ap (λ (x : ℕ). get_or stored x 0) e
 
-  bytes-part : Agree pages end rest 0 (length rest) → part ≡ rest
+  bytes-part : Agree stored (length stored) rest 0 (length rest) → part ≡ rest
   unfolding part
   bytes-part h =
       let l : length part ≡ length rest = simp (length-take, length-drop) (omega arith) in
@@ -41,20 +41,20 @@ module _ (pages : Bytes) (end : ℕ) (rest : Bytes) (fits : length rest ≤ end)
       let e : length rest - (length rest - i) ≡ i = omega arith in
       part-byte i (omega arith) ∙ h (length rest - i) (omega arith) (omega arith) ∙ ap (λ (x : ℕ). get_or rest x 0) e)
 
-  part_bytes : rest ≡ part → Agree pages end rest 0 (length rest)
+  part_bytes : rest ≡ part → Agree stored (length stored) rest 0 (length rest)
   part_bytes e k l u =
       let p : length rest - (length rest - k) ≡ k = omega arith in
-      sym (part-byte (length rest - k) (omega arith) ∙ ap (λ (x : ℕ). get_or pages (end - x) 0) p)
+      sym (part-byte (length rest - k) (omega arith) ∙ ap (λ (x : ℕ). get_or stored (length stored - x) 0) p)
       ∙ ap (λ (x : Bytes). get_or x (length rest - k) 0) (sym e)
 
   -- The rest was compared with the part at once, and is not the same;
-  pub at-once-not : (left : ℕ) → same_bytes rest (take (end - (end - length rest)) (drop (end - length rest) pages)) ≡ false → Agreeing pages end rest left 0
+  pub at-once-not : (left : ℕ) → same_bytes rest (take (length stored - (length stored - length rest)) (drop (length stored - length rest) stored)) ≡ false → Agreeing stored (length stored) rest left 0
   unfolding part
-  at-once-not left e = no_more pages end rest left (λ h. clash (ap (same_bytes rest) (bytes-part h) ∙ bytes_same rest) e)
+  at-once-not left e = no_more stored (length stored) rest left (λ h. clash (ap (same_bytes rest) (bytes-part h) ∙ bytes_same rest) e)
 
   -- or it is.
-  pub at_once : (left : ℕ) → 0 < left → left ≤ length rest → same_bytes rest (take (end - (end - length rest)) (drop (end - length rest) pages)) ≡ true
-      → Agreeing pages end rest left left
+  pub at_once : (left : ℕ) → 0 < left → left ≤ length rest → same_bytes rest (take (length stored - (length stored - length rest)) (drop (length stored - length rest) stored)) ≡ true
+      → Agreeing stored (length stored) rest left left
   unfolding part
   at_once left z m e =
       let p = part_bytes (bytes-true rest _ e) in

@@ -1,12 +1,12 @@
 -- A key's lengths, and a front with n bytes more. Assumes nothing.
-use mathlib.Core.Path.{◌≡◌, ◌∙◌, sym}
+use mathlib.Core.Path.{◌≡◌}
 use mathlib.Core.Logic.{◌≢◌}
 use mathlib.Core.Bool.{true, false}
 use mathlib.Core.List.{[], ◌∷◌, ◌++◌}
-use Prim.Native.Nat.{ℕ, ◌+◌, ◌-◌, ◌^◌, ◌≤◌, ◌<◌}
+use Prim.Native.Nat.{ℕ, ◌+◌, ◌^◌, ◌<◌}
 use native.Mathlib.Omega.{arith}
 use lib.Dec.{eqb}
-use lib.ListN.{length, take, drop, length-append, length-take, length-drop}
+use lib.ListN.{length, take, length-append}
 use lib.Seq.{take-append_seam}
 use borrow.Author.Tests.{eqb-true, eq-eqb, ne_eqb}
 use Rattle.slices.specs.Bytes.{Bytes, same_bytes}
@@ -56,10 +56,3 @@ front-facts x f n e = (
 pub front-own : (f y : Bytes) → front_is (f ++ y) f (length y) ≡ true
 unfolding front_is
 front-own f y = rw (eq-eqb (length (f ++ y)) (length f + length y) (length-append f y), take-append_seam f y) (bytes_same f)
-
--- The length of a part of the pages, once it was compared.
-pub front-sized : (pages : Bytes) (at len : ℕ) (f : Bytes) (n : ℕ) → at + len ≤ length pages
-    → front_is (take (at + len - at) (drop at pages)) f n ≡ true → len ≡ length f + n
-front-sized pages at len f n l e =
-    let z : length (take (at + len - at) (drop at pages)) ≡ len = simp (length-take, length-drop) (omega arith) in
-    sym z ∙ (front-facts (take (at + len - at) (drop at pages)) f n e).0

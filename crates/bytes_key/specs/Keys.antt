@@ -1,5 +1,5 @@
 -- The bytes of two parts in a row, and what the comparison of a key with stored bytes answers. Assumes nothing.
-use Rattle.std.specs.Prelude.{◌≡◌, Bool, ◌&&◌, ◌++◌, ℕ, ◌+◌, ◌-◌, ◌<◌, ◌≤◌, eqb, length, get_or, take}
+use Rattle.std.specs.Prelude.{◌≡◌, Bool, ◌&&◌, ◌++◌, ℕ, ◌+◌, ◌-◌, ◌<◌, ◌≤◌, eqb, length, get_or, take, Option, Some, None}
 use Rattle.slices.specs.Bytes.{Bytes, same_bytes}
 use Rattle.parts.specs.declared.Mode.{Mode}
 use Rattle.parts.specs.Parts.{bytes_of}
@@ -21,3 +21,8 @@ pub record Agreeing (pages : Bytes) (end : ℕ) (rest : Bytes) (left r : ℕ) : 
   pub within : r ≤ left
   pub same : Agree pages end rest (left - r) left
   pub differ : r ≡ 0 → Agree pages end rest 0 (length rest) → ⊥
+
+-- The same r of an answer that is none where not all of the rest agrees.
+abbrev pub agreed : Option ℕ → ℕ
+agreed None = 0
+agreed (Some r) = r

@@ -1,11 +1,11 @@
 // A key: its bytes in two parts, how many they are, the places of its search, and its comparison with stored bytes.
 #![tactic(auto)]
 
-ghost use Rattle.std.specs.Prelude.{◌≡◌, ◌+◌, ◌%◌, ◌^◌, ◌≤◌, ◌<◌, ◌++◌, length};
+ghost use Rattle.std.specs.Prelude.{◌≡◌, ◌+◌, ◌%◌, ◌^◌, ◌≤◌, ◌<◌, ◌++◌, length, IfSome};
 ghost use Rattle.fnv.specs.Fnv.{fnv_of};
 ghost use Rattle.parts.specs.Parts.{part_bytes};
 ghost use Rattle.layout.specs.Fields.{top_of};
-ghost use Rattle.bytes_key.specs.Keys.{front_is, Agreeing};
+ghost use Rattle.bytes_key.specs.Keys.{Agreeing, agreed};
 
 use layout::{Dictionary, ENTRY_NUMBERS};
 use parts::{Mode, Part};
@@ -26,6 +26,42 @@ pub struct Key<'f, 'r> {
     pub parts: Parts<'f, 'r>,
     pub ghost hashed: { h ≡ fnv_of (part_bytes parts.front ++ part_bytes parts.rest) },
     pub ghost fits: { length (part_bytes parts.front ++ part_bytes parts.rest) < 2 ^ 64 },
+}
+
+impl<'f, 'r> Key<'f, 'r> {
+    ghost use Rattle.std.specs.Prelude.{◌≡◌, ◌^◌, ◌<◌, ◌++◌, length};
+    ghost use Rattle.fnv.specs.Fnv.{fnv_of};
+    ghost use Rattle.parts.specs.Parts.{part_bytes};
+    ghost use Rattle.bytes_key.specs.KeyBytes.{bytes_in};
+
+    // The key of these bytes behind a front, which is stored in its own form.
+    #[inline(always)]
+    pub fn behind(d: Dictionary, h: u32, front: Part<'f>, rest: &'r [u8]) -> Key<'f, 'r>
+        requires hashed { h ≡ fnv_of (part_bytes front ++ rest.now) }
+        requires fits { length (part_bytes front ++ rest.now) < 2 ^ 64 }
+        ensures { (result.d ≡ d) × (bytes_in result ≡ part_bytes front.entry ++ rest.now) }
+    {
+        let parts = Parts {
+            front,
+            rest: Part::raw(rest),
+        };
+        Key { d, h, parts }
+    }
+}
+
+impl<'a> Key<'a, 'a> {
+    ghost use Rattle.std.specs.Prelude.{◌≡◌};
+    ghost use Rattle.fnv.specs.Fnv.{fnv_of};
+    ghost use Rattle.bytes_key.specs.KeyBytes.{bytes_in};
+
+    // The key of these bytes alone.
+    #[inline(always)]
+    pub fn whole(d: Dictionary, h: u32, bytes: &'a [u8]) -> Key<'a, 'a>
+        requires { h ≡ fnv_of bytes.now }
+        ensures { (result.d ≡ d) × (bytes_in result ≡ bytes.now) }
+    {
+        Key::behind(d, h, Part::raw(&bytes[..0]), bytes)
+    }
 }
 
 impl Parts<'_, '_> {
@@ -67,64 +103,90 @@ pub fn up(j: usize, m: usize) -> usize
     if k == m { 0 } else { k }
 }
 
-// Whether a stored key begins with the front and has `rest` bytes more. The front's stored length is `measured`.
-pub fn front_is(stored: &[u8], front: Part<'_>, measured: usize, rest: usize) -> bool
-    requires { measured ≡ length (part_bytes front) }
-    ensures { result ≡ front_is stored.now (part_bytes front.entry) rest }
-{
-    if stored.len() < measured {
-        return false;
-    }
-    if stored.len() - measured != rest {
-        return false;
-    }
-    // Heads and plain strings have no front.
-    if measured == 0 {
-        return true;
-    }
-    // Kept: a test of the mode. Most fronts are frequent ids, and with a known mode the compiler merges their comparison into the search: 39 instructions less.
-    if let Mode::Raw = front.mode {
-        return Part::raw(front.bytes).is_stored_as(&stored[..measured]);
-    }
-    front.is_stored_as(&stored[..measured])
+// A part whose stored bytes are counted.
+#[derive(Clone, Copy)]
+pub struct Measured<'a> {
+    pub part: Part<'a>,
+    pub len: usize,
+    pub ghost measured: { len ≡ length (part_bytes part) },
 }
 
-// Compares more bytes of the rest with the pages, where a stored rest ends at `end`. The last `left` bytes are still to compare. Answers how many more
-// agree: up to eight if the rest has eight, else all of them. 0: they do not agree.
-// Kept: 0 for no. The search takes the answer off what is left, and an Option of a length that is never 0 is no plainer.
-fn agreeing(pages: &[u8], end: usize, rest: &[u8], left: usize) -> usize
-    requires { (0 < left) × (left ≤ length rest.now) × (length rest.now ≤ end) × (end ≤ length pages.now) }
-    ensures { Agreeing pages.now end rest.now left result }
+// Compares more bytes of a rest with the last bytes of a stored key. The last `left` bytes are still to compare. Answers how many more agree: up to eight
+// if the rest has eight, else all of them. None: they do not agree.
+// Kept: how many are left, and not what is left. The last eight bytes may begin among those that were compared before, so all of the rest is needed.
+fn agreeing(stored: &[u8], rest: &[u8], left: usize) -> Option<usize>
+    requires { (0 < left) × (left ≤ length rest.now) × (length rest.now ≤ length stored.now) }
+    ensures agreeing { Agreeing stored.now (length stored.now) rest.now left (agreed result) }
+    ensures more { IfSome result (λ n. 0 < n) }
 {
+    let end = stored.len();
     let n = rest.len();
     if n < 8 {
-        let start = end - n;
-        if !Part::raw(rest).is_stored_as(&pages[start..end]) {
-            return 0;
+        if !Part::raw(rest).is_stored_as(&stored[end - n..]) {
+            return None;
         }
-        return left;
+        return Some(left);
     }
     // The last eight may begin among bytes that were compared before.
-    let from = if left < 8 { 8 } else { left };
-    if words::number_from::<WORD>(pages, end - from) != words::number_from::<WORD>(rest, n - from) {
-        return 0;
+    let from = left.max(8);
+    if words::number_from::<WORD>(stored, end - from)
+        != words::number_from::<WORD>(rest, n - from)
+    {
+        return None;
     }
-    if left < 8 { left } else { 8 }
+    Some(left.min(8))
 }
 
-// Compares more of a rest in its mode. The rest's stored length is n. A raw rest is compared eight bytes at a time, any other one at once.
-// Kept: `end` is a place in the pages, here and above. The word before it is read at an index of the pages, so a slice up to it is no plainer.
-// Kept: a test of the mode. Only a raw rest lies as it is stored, so only its bytes can be compared eight at a time.
-pub fn agreeing_in(pages: &[u8], end: usize, rest: Part<'_>, n: usize, left: usize) -> usize
-    requires { (0 < left) × (left ≤ n) × (n ≡ length (part_bytes rest)) × (n ≤ end) × (end ≤ length pages.now) }
-    ensures { Agreeing pages.now end (part_bytes rest.entry) left result }
-{
-    if let Mode::Raw = rest.mode {
-        return agreeing(pages, end, rest.bytes, left);
+impl<'a> Measured<'a> {
+    ghost use Rattle.std.specs.Prelude.{◌≡◌, ◌^◌, ◌≤◌, ◌<◌, length, IfSome};
+    ghost use Rattle.parts.specs.Parts.{part_bytes};
+    ghost use Rattle.bytes_key.specs.Keys.{front_is, Agreeing, agreed};
+
+    pub fn new(part: Part<'a>) -> Measured<'a>
+        requires { length (part_bytes part) < 2 ^ 64 }
+        ensures { part_bytes result.part ≡ part_bytes part.entry }
+    {
+        let len = part.measure();
+        Measured { part, len }
     }
-    let start = end - n;
-    if !rest.is_stored_as(&pages[start..end]) {
-        return 0;
+
+    // Whether a stored key begins with the part and has `behind` bytes more.
+    pub fn is_front(&self, stored: &[u8], behind: usize) -> bool
+        ensures { result ≡ front_is stored.now (part_bytes self.now.part) behind }
+    {
+        let part = self.part;
+        let n = self.len;
+        if stored.len() < n {
+            return false;
+        }
+        if stored.len() - n != behind {
+            return false;
+        }
+        // Heads and plain strings have no front.
+        if n == 0 {
+            return true;
+        }
+        // Kept: a test of the mode. Most fronts are frequent ids, and with a known mode the compiler merges their comparison into the search: 39 instructions less.
+        if let Mode::Raw = part.mode {
+            return Part::raw(part.bytes).is_stored_as(&stored[..n]);
+        }
+        part.is_stored_as(&stored[..n])
     }
-    left
+
+    // Compares more of the part with the last bytes of a stored key. A raw part is compared eight bytes at a time, any other one at once.
+    // Kept: a test of the mode. Only a raw part lies as it is stored, so only its bytes can be compared eight at a time.
+    pub fn agreeing(&self, stored: &[u8], left: usize) -> Option<usize>
+        requires { (0 < left) × (left ≤ self.now.len) × (self.now.len ≤ length stored.now) }
+        ensures agreeing { Agreeing stored.now (length stored.now) (part_bytes self.now.part) left (agreed result) }
+        ensures more { IfSome result (λ n. 0 < n) }
+    {
+        let part = self.part;
+        if let Mode::Raw = part.mode {
+            return agreeing(stored, part.bytes, left);
+        }
+        if !part.is_stored_as(&stored[stored.len() - self.len..]) {
+            return None;
+        }
+        Some(left)
+    }
 }

@@ -1,36 +1,49 @@
 -- What the writes of a plan make of pages and lists: the head at its spot, then the key at its own. A head without a spot is not written. Assumes nothing.
-use Rattle.std.specs.Prelude.{ℕ, ◌*◌, ◌<◌, ◌≡◌, Option, Some, None}
+use Rattle.std.specs.Prelude.{ℕ, [], length, Option, Some, None}
 use Rattle.slices.specs.Bytes.{Bytes}
-use Rattle.fnv.specs.Fnv.{fnv_of}
 use Rattle.layout.specs.declared.Sizes.{Sizes}
-use Rattle.bytes_dictionary.specs.Written.{pages_after, lists_after, pages_with, lists_with}
+use Rattle.bytes_buffer.specs.declared.Spot.{Spot}
+use Rattle.bytes_dictionary.specs.Written.{pages_after, lists_after}
 use Rattle.blocks.specs.Answers.{block_written}
 use Rattle.model.specs.Kinds.{row}
+use Rattle.plan_room.specs.declared.Head.{Head}
 use Rattle.plan.specs.declared.Plan.{Plan}
-use Rattle.commit.specs.declared.NewHead.{NewHead}
-use Rattle.commit.specs.declared.NewName.{NewName}
+use Rattle.commit.specs.declared.new_name.NewHead.{NewHead}
+use Rattle.commit.specs.declared.new_name.NewName.{NewName}
 
 -- ---- a new head, if there is one
 
-abbrev pub number_in : Option NewHead → Option ℕ
-number_in None = None
-number_in (Some x) = Some x.f
+abbrev pub head_in : Option NewHead → Option Head
+head_in None = None
+head_in (Some x) = Some (record { f = x.f; size = length x.bytes.now })
 
 abbrev pub place_in : Option NewHead → ℕ
 place_in None = 0
 place_in (Some x) = x.place
 
--- The number of a name's new head, and its empty place; 0 without one.
-abbrev pub head_of : NewName → Option ℕ
-head_of w = number_in w.head
+abbrev pub bytes_of_head : Option NewHead → Bytes
+bytes_of_head None = []
+bytes_of_head (Some x) = x.bytes.now
+
+-- What a plan is asked of a name's new head; its empty place and its bytes, 0 and none without one.
+abbrev pub head_of : NewName → Option Head
+head_of w = head_in w.head
 
 abbrev pub head_place : NewName → ℕ
 head_place w = place_in w.head
 
--- The head can be entered: its place is one of the lists, and the hash is its own.
-abbrev pub HeadReady : Sizes → Bytes → Option NewHead → Type 0
-HeadReady s head None = Unit {0}
-HeadReady s head (Some x) = (x.place < 2 * s.e) × (x.h ≡ fnv_of head)
+abbrev pub head_bytes : NewName → Bytes
+head_bytes w = bytes_of_head w.head
+
+-- ---- an entry with a spot or without: without one nothing is written
+
+abbrev pub pages_with : Sizes → Bytes → Option Spot → Bytes → Bytes
+pages_with s pages (Some spot) key = pages_after s pages spot key
+pages_with s pages None key = pages
+
+abbrev pub lists_with : Sizes → Bytes → ℕ → ℕ → ℕ → Option Spot → ℕ → Bytes → Bytes
+lists_with s lists d n place (Some spot) stamp key = lists_after s lists d n place spot stamp key
+lists_with s lists d n place None stamp key = lists
 
 -- ---- the head, then the key
 

@@ -6,7 +6,6 @@ ghost use Rattle.memory.specs.Promises.{AddPost};
 ghost use Rattle.commit.specs.Answers.{added_by};
 
 use commit::Added;
-use layout::lent::{Lists, Memory};
 use names::Name;
 use refusals::Refusal;
 use search::Search;
@@ -21,20 +20,12 @@ pub fn add<'a>(
 ) -> Result<Added, Refusal>
     ensures { AddPost pages.old lists.old (entered kind first.now second.now) (added_by result) pages.new lists.new }
 {
-    let layout = header::check_header(pages, lists)?;
+    let memory = header::check_header(pages, lists)?;
+    let layout = memory.lists.layout;
     let name = Name::new(layout.sizes, kind, first, second)?;
-    let memory = Memory {
-        lists: Lists {
-            layout,
-            bytes: lists,
-        },
-        pages,
-    };
-    // The text is checked after the search, which does not wait for it.
-    let x = search::find_name(&memory, &name);
-    name.check_text(x.ascii)?;
-    match x.found? {
-        Search::Found(local) => commit::known(&memory.lists, name.kind, local),
-        Search::Missing(place) => enter::add_name(pages, lists, &layout, &name, x, place),
+    let found = search::find_name(&memory, &name)?;
+    match &found {
+        Search::Found(local) => commit::known(&memory.lists, name.kind, *local),
+        Search::Missing(place) => enter::add_name(pages, lists, &layout, &name, place),
     }
 }

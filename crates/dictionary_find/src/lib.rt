@@ -5,11 +5,10 @@ ghost use Rattle.model.specs.Names.{entered};
 ghost use Rattle.memory.specs.Promises.{FindPost};
 ghost use Rattle.dictionary_find.specs.Answers.{found_by};
 
-use layout::lent::{Lists, Memory};
 use meta_dv_dict::GlobalId;
 use names::Name;
 use refusals::Refusal;
-use search::Search;
+use search::{Place, Search};
 
 // The number that a name has, or None. Both parts have one lifetime, since the rest may lie in either.
 pub fn find<'a>(
@@ -21,23 +20,15 @@ pub fn find<'a>(
 ) -> Result<Option<GlobalId>, Refusal>
     ensures { FindPost pages.entry.now lists.entry.now (entered kind first.now second.now) (found_by result) pages.exit.now lists.exit.now }
 {
-    let layout = header::check_header(pages, lists)?;
-    let name = Name::new(layout.sizes, kind, first, second)?;
-    let memory = Memory {
-        lists: Lists {
-            layout,
-            bytes: lists,
-        },
-        pages,
-    };
-    // The text is checked after the search, which does not wait for it.
-    let x = search::find_name(&memory, &name);
-    name.check_text(x.ascii)?;
-    match x.found? {
+    let memory = header::check_header(pages, lists)?;
+    let name = Name::new(memory.lists.layout.sizes, kind, first, second)?;
+    let found = search::find_name(&memory, &name)?;
+    match found {
         Search::Found(local) => {
             let number = meta_dv_dict::local_to_global(&memory.lists, name.kind, local)?;
             Ok(Some(number))
         }
-        Search::Missing(_) => Ok(None),
+        // Both places are named: with `_` here the check of borrows finds no proof.
+        Search::Missing(Place::Key(_) | Place::Head(_)) => Ok(None),
     }
 }

@@ -4,7 +4,7 @@
 ghost use Rattle.memory.specs.Promises.{OpenPost};
 ghost use Rattle.dictionary_open.specs.Answers.{opened_by};
 
-use layout::lent::Layout;
+use layout::lent::{Layout, Memory};
 use refusals::Refusal;
 
 // Makes the memory a dictionary with no names: page width p, pages n, list length e, block width w, blocks b.
@@ -20,10 +20,7 @@ pub fn open(
     ensures { OpenPost (record { p = p; n = n; e = e; w = w; b = b }) pages.entry.now lists.old (opened_by result) pages.exit.now lists.new }
 {
     let layout = Layout::new(p, n, e, w, b).ok_or(Refusal::BadSize)?;
-    if pages.len() < layout.page_bytes() {
-        return Err(Refusal::ShortMemory);
-    }
-    if lists.len() < layout.list_bytes() {
+    if Memory::new(layout, lists, pages).is_none() {
         return Err(Refusal::ShortMemory);
     }
     header::init(lists, &layout);

@@ -22,8 +22,9 @@ use Rattle.model.specs.State.{State, name_of}
 use Rattle.model.specs.Steps.{read_by, buffer_by}
 use Rattle.memory.specs.Stands.{Stands}
 use Rattle.memory.specs.Promises.{ReadPost}
-use Rattle.locate.specs.declared.Pieces.{Pieces}
-use Rattle.locate.specs.Located.{pieces_in, Tells, LocatesName}
+use Rattle.locate.specs.declared.pieces.Pieces.{Pieces}
+use Rattle.locate.specs.Copied.{pieces_in}
+use Rattle.locate.specs.Located.{Tells, LocatesName}
 use Rattle.memory.proofs.Headers.{header-refused, no-state, not-always, one-sizes}
 
 pub read-unopened : (pages lists : Bytes) (number : ℕ) (x : Bytes) (why : Refusal) → header_of (length pages) lists ≡ Err why
@@ -56,10 +57,10 @@ module _ (pages lists : Bytes) (s : Sizes) (e : header_of (length pages) lists �
         buffer-length = refl;
         kept = (refl, refl);
         buffer-kept = λ f. refl;
-        whole = told ReadAnswer.absent x (λ o. Tells pages o (Ok None)) go h.right;
+        whole = told ReadAnswer.absent x (λ o. Tells o (Ok None)) go h.right;
       }
     where
-      go : (o : Option Name) → Tells pages o (Ok None) → (ReadAnswer.absent ≡ read_by x o) × (x ≡ buffer_by x o)
+      go : (o : Option Name) → Tells o (Ok None) → (ReadAnswer.absent ≡ read_by x o) × (x ≡ buffer_by x o)
       go none p = (refl, refl)
       go (some a) p = absurd p
 
@@ -71,15 +72,15 @@ module _ (pages lists : Bytes) (s : Sizes) (e : header_of (length pages) lists �
         buffer-length = refl;
         kept = (refl, refl);
         buffer-kept = λ f. refl;
-        whole = told (ReadAnswer.refused why) x (λ o. Tells pages o (Err why)) go h.right;
+        whole = told (ReadAnswer.refused why) x (λ o. Tells o (Err why)) go h.right;
       }
     where
-      go : (o : Option Name) → Tells pages o (Err why) → (ReadAnswer.refused why ≡ read_by x o) × (x ≡ buffer_by x o)
+      go : (o : Option Name) → Tells o (Err why) → (ReadAnswer.refused why ≡ read_by x o) × (x ≡ buffer_by x o)
       go none p = absurd p
       go (some a) p = absurd p
 
   module _ (q : Pieces) (h : LocatesName s pages lists number (Ok (Some q))) where
-    pub read_short : length x < q.first + q.second → ReadPost pages lists number x (ReadAnswer.refused ShortBuffer) x pages lists
+    pub read_short : length x < q.told.first + q.told.second → ReadPost pages lists number x (ReadAnswer.refused ShortBuffer) x pages lists
     read_short l =
         record {
           unopened = λ u. absurd (not-always pages lists s e u);
@@ -87,28 +88,28 @@ module _ (pages lists : Bytes) (s : Sizes) (e : header_of (length pages) lists �
           buffer-length = refl;
           kept = (refl, refl);
           buffer-kept = λ f. refl;
-          whole = told (ReadAnswer.refused ShortBuffer) x (λ o. Tells pages o (Ok (Some q))) go h.right;
+          whole = told (ReadAnswer.refused ShortBuffer) x (λ o. Tells o (Ok (Some q))) go h.right;
         }
       where
-        go : (o : Option Name) → Tells pages o (Ok (Some q)) → (ReadAnswer.refused ShortBuffer ≡ read_by x o) × (x ≡ buffer_by x o)
+        go : (o : Option Name) → Tells o (Ok (Some q)) → (ReadAnswer.refused ShortBuffer ≡ read_by x o) × (x ≡ buffer_by x o)
         go none p = absurd p
         go (some a) p =
             let t : length x < size a = omega (arith, p.first, p.second) in
             rw (lt-leb (size a) (length x) t) (refl, refl)
 
-    pub read_name : q.first + q.second ≤ length x → (y : Bytes) → y ≡ pieces_in pages q ++ drop (q.first + q.second) x
-        → ReadPost pages lists number x (ReadAnswer.name (kind_number q.kind) q.first q.second) y pages lists
+    pub read_name : q.told.first + q.told.second ≤ length x → (y : Bytes) → y ≡ pieces_in q ++ drop (q.told.first + q.told.second) x
+        → ReadPost pages lists number x (ReadAnswer.name (kind_number q.told.kind) q.told.first q.told.second) y pages lists
     read_name l y w =
         record {
           unopened = λ u. absurd (not-always pages lists s e u);
-          bounded = (kind-below q.kind, l, rw w (drop_at (pieces_in pages q) _ _ h.range.lengths));
-          buffer-length = rw w (simp (length-append, length-drop) (omega (arith, h.range.lengths)));
+          bounded = (kind-below q.told.kind, l, rw w (drop_at (pieces_in q) _ _ q.lengths));
+          buffer-length = rw w (simp (length-append, length-drop) (omega (arith, simp length-append at q.lengths)));
           kept = (refl, refl);
           buffer-kept = λ f. absurd (f _ _ _ refl);
-          whole = told (ReadAnswer.name (kind_number q.kind) q.first q.second) y (λ o. Tells pages o (Ok (Some q))) go h.right;
+          whole = told (ReadAnswer.name (kind_number q.told.kind) q.told.first q.told.second) y (λ o. Tells o (Ok (Some q))) go h.right;
         }
       where
-        go : (o : Option Name) → Tells pages o (Ok (Some q)) → (ReadAnswer.name (kind_number q.kind) q.first q.second ≡ read_by x o) × (y ≡ buffer_by x o)
+        go : (o : Option Name) → Tells o (Ok (Some q)) → (ReadAnswer.name (kind_number q.told.kind) q.told.first q.told.second ≡ read_by x o) × (y ≡ buffer_by x o)
         go none p = absurd p
         go (some a) p =
             let t : size a ≤ length x = omega (arith, p.first, p.second) in

@@ -3,7 +3,7 @@ use Rattle.std.specs.Prelude.{ℕ, Option, Some, None, Result, Ok, Err}
 use Rattle.refusals.specs.declared.Refusal.{Refusal}
 use Rattle.layout.specs.Numbers.{kind_number}
 use Rattle.model.specs.Answers.{ReadAnswer, CountAnswer}
-use Rattle.dictionary_read.specs.declared.Told.{Told}
+use Rattle.locate.specs.declared.pieces.Told.{Told}
 
 abbrev pub told_by : Result (Option Told) Refusal → ReadAnswer
 told_by (Ok (Some x)) = ReadAnswer.name (kind_number x.kind) x.first x.second

@@ -6,17 +6,9 @@ ghost use Rattle.dictionary_read.specs.Answers.{told_by, counted_by};
 
 use kind_table::Row;
 use layout::Kind;
-use layout::lent::{Lists, Memory};
+use locate::pieces::Told;
 use meta_dv_dict::GlobalId;
 use refusals::Refusal;
-
-// A name's kind and the lengths of its parts.
-#[derive(Clone, Copy, Debug, PartialEq, Eq)]
-pub struct Told {
-    pub kind: Kind,
-    pub first: usize,
-    pub second: usize,
-}
 
 // The name that has a number, or None: its parts at the buffer's start, one after the other.
 pub fn read(
@@ -27,42 +19,24 @@ pub fn read(
 ) -> Result<Option<Told>, Refusal>
     ensures { ReadPost pages.entry.now lists.entry.now number.0 buffer.old (told_by result) buffer.new pages.exit.now lists.exit.now }
 {
-    let layout = header::check_header(pages, lists)?;
-    let memory = Memory {
-        lists: Lists {
-            layout,
-            bytes: lists,
-        },
-        pages,
-    };
+    let memory = header::check_header(pages, lists)?;
     let Some(x) = locate::locate_name(&memory, number)? else {
         return Ok(None);
     };
-    let kind = x.kind;
-    let first = x.first;
-    let second = x.second;
-    if buffer.len() < first + second {
+    if buffer.len() < x.told.first + x.told.second {
         return Err(Refusal::ShortBuffer);
     }
-    locate::copy_name(pages, x, buffer);
-    Ok(Some(Told {
-        kind,
-        first,
-        second,
-    }))
+    locate::copy_name(&x, buffer);
+    Ok(Some(x.told))
 }
 
 // How many names of a kind there are.
 pub fn count(pages: &[u8], lists: &[u8], kind: usize) -> Result<usize, Refusal>
     ensures { CountPost pages.entry.now lists.entry.now kind (counted_by result) pages.exit.now lists.exit.now }
 {
-    let layout = header::check_header(pages, lists)?;
+    let memory = header::check_header(pages, lists)?;
     let Ok(kind) = Kind::try_from(kind) else {
         return Err(Refusal::BadKind);
     };
-    let lists = Lists {
-        layout,
-        bytes: lists,
-    };
-    bytes_dictionary::count(&lists, Row::of(kind).main)
+    bytes_dictionary::count(&memory.lists, Row::of(kind).main)
 }

@@ -1,7 +1,7 @@
 // A tag as it is stored in front of its text, one byte at a time: which bytes are stored for each, and how these are measured, written, hashed and compared.
 #![tactic(auto)]
 
-ghost use Rattle.std.specs.Prelude.{◌≡◌, [], ◌∷◌, ◌+◌, ◌≤◌, length, take, drop};
+ghost use Rattle.std.specs.Prelude.{◌≡◌, ◌+◌, ◌≤◌, length, take, drop};
 ghost use Rattle.std.proofs.lemmas.List.Edits.{sets};
 ghost use Rattle.fnv.specs.Fnv.{fnv_from};
 ghost use Rattle.slices.specs.Bytes.{same_bytes};
@@ -11,6 +11,7 @@ ghost use Rattle.encoding.specs.Encoding.{form_of, first_byte, encoded_byte, enc
 pub const SHORT: usize = 127;
 
 // How the bytes of a tag are stored. `encode` and `end` follow it.
+// Kept: an enum, here and in `parts::Mode`, and no trait with a type for each. The form follows from the tag's length, and the mode from the kind: both are known at run time only.
 #[derive(Clone, Copy)]
 pub enum Form {
     // As they are, behind a byte that says how many.
@@ -21,6 +22,8 @@ pub enum Form {
 
 // What is stored for one byte of a tag, or behind its last.
 // Kept: an enum of its own. It has three cases, and an array with a length is no plainer for two bytes at the most.
+// Kept: a position beside the slice, here and in `parts`. A byte of a tag is stored as one byte or two. Without a position each step would hand back what is left of
+// the slice, which for one that is lent for writing takes a promise of its own on what comes back.
 #[derive(Clone, Copy)]
 pub enum Stored {
     Nothing,
@@ -29,7 +32,7 @@ pub enum Stored {
 }
 
 impl Form {
-    // The only test of the length.
+    // The only test of the length of a tag that is to be stored.
     pub fn of(tag: &[u8]) -> Form
         ensures { result ≡ form_of tag.now }
     {
@@ -40,7 +43,7 @@ impl Form {
         }
     }
 
-    // How a byte of a tag is stored. Only this function knows the escapes.
+    // How a byte of a tag is stored. Only this function makes the escapes.
     #[tactic(auto, unfolding(crate::specs::Encoding::encoded_byte, crate::specs::Encoding::escape))]
     pub fn encode(self, b: u8) -> Stored
         ensures { stored_bytes result ≡ encoded_byte self b }
@@ -129,11 +132,4 @@ impl Stored {
             Stored::Two(a, b) => a == stored[at] && b == stored[at + 1],
         }
     }
-}
-
-// Whether the byte a stands at `at`.
-pub fn has_byte(stored: &[u8], at: usize, a: u8) -> bool
-    ensures { result ≡ same_bytes (a ∷ []) (take 1 (drop at stored.now)) }
-{
-    stored.get(at) == Some(&a)
 }

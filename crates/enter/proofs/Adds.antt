@@ -19,7 +19,8 @@ use Rattle.layout.proofs.Numbers.{kind-below}
 use Rattle.bytes_buffer.specs.declared.Spot.{Spot}
 use Rattle.bytes_index.specs.Search.{Searched}
 use Rattle.bytes_index.specs.declared.Probe.TheVariants.{Free}
-use Rattle.bytes_dictionary.specs.Written.{lists_after, pages_with, lists_with}
+use Rattle.bytes_key.specs.KeyBytes.{bytes_in}
+use Rattle.bytes_dictionary.specs.Written.{lists_after}
 use Rattle.model.specs.Names.{Name}
 use Rattle.model.specs.Answers.{AddAnswer}
 use Rattle.model.specs.Kinds.{row}
@@ -36,8 +37,9 @@ use Rattle.plan.specs.Plans.{NoRoom, full, headless, pageless, blockless, ReadyN
 use Rattle.plan_room.specs.Steps.{is_new, head_number, some_spot, HeadFits}
 use Rattle.names.specs.Given.{given}
 use Rattle.names.specs.declared.Name as Code
-use Rattle.commit.specs.declared.NewHead.{NewHead}
-use Rattle.commit.specs.Written.{number_in, place_in, name_pages, name_lists}
+use Rattle.commit.specs.declared.new_name.NewHead.{NewHead}
+use Rattle.commit.specs.declared.new_name.NewName.{NewName}
+use Rattle.commit.specs.Written.{head_in, place_in, bytes_of_head, pages_with, lists_with, name_pages, name_lists}
 use Rattle.enter.specs.Added.{CarriedOut, EntersName, AddsName}
 
 -- A fresh number is in its block.
@@ -183,15 +185,24 @@ module _ (s : Sizes) (pages lists : Bytes) (name : Code.Name) where
       insert-beyond s pages lists (row a.kind).heads_at f hplace spot stamp head R L.pages-fit L.lists-fit (head-below a.kind) fl hp h.1
   head-beyond new None f hplace stamp head R L h fl hp = beyond-same s pages lists
 
-  module _ (R : InRange s) (L : Fit s pages lists) (place : ℕ) (new_head : Option NewHead) (head key : Bytes) where
+  module _ (R : InRange s) (L : Fit s pages lists) (w : NewName) (kind_is : w.kind ≡ name.kind) (new_head : Option NewHead) (head_is : w.head ≡ new_head) where
+    abbrev place : ℕ
+    place = w.place
+
+    abbrev key : Bytes
+    key = bytes_in w.key.now
+
     abbrev new : Bool
-    new = is_new (number_in new_head)
+    new = is_new (head_in new_head)
 
     abbrev f : ℕ
-    f = head_number (number_in new_head)
+    f = head_number (head_in new_head)
 
     abbrev hplace : ℕ
     hplace = place_in new_head
+
+    abbrev head : Bytes
+    head = bytes_of_head new_head
 
     module _ (hp : hplace < 2 * s.e) (searched : Searched s (row a.kind).main_at pages lists key (Ok (Free place)))
         (hsearched : new ≡ true → Searched s (row a.kind).heads_at pages lists head (Ok (Free hplace)))
@@ -233,13 +244,11 @@ module _ (s : Sizes) (pages lists : Bytes) (name : Code.Name) where
                 rw d (refl, S);
           }
 
-      pub adds : (r : AddAnswer) (pages' lists' : Bytes)
-          → EntersName s pages lists (record { kind = name.kind; place = place; head = new_head }) head key r pages' lists'
-          → AddsName s a pages lists r pages' lists'
-      adds r pages' lists' E = go E.plan E.planned E.carried
+      pub adds : (r : AddAnswer) (pages' lists' : Bytes) → EntersName s pages lists w r pages' lists' → AddsName s a pages lists r pages' lists'
+      adds r pages' lists' E = go E.plan (rw (kind_is, head_is) at E.planned) E.carried
         where
           go : (p : Result Plan Refusal) → Plans s lists a.kind new f (length head) (length key) p
-              → CarriedOut s pages lists (record { kind = name.kind; place = place; head = new_head }) head key p r pages' lists'
+              → CarriedOut s pages lists w p r pages' lists'
               → AddsName s a pages lists r pages' lists'
           go (Err why) H c = as-left c.0 c.1 c.2 (none-entered why H)
-          go (Ok x) H c = as-left c.0 c.1 c.2 (fresh x H)
+          go (Ok x) H c = as-left c.0 (rw head_is at c.1) (rw (kind_is, head_is) at c.2) (fresh x H)

@@ -3,7 +3,7 @@ use Prim.Native.Nat.{ℕ}
 use mathlib.Core.Path.{◌≡◌, refl, sym, ap, subst, ◌∙◌}
 use mathlib.Core.Logic.{inl, inr}
 use mathlib.Core.Bool.{false≢true}
-use mathlib.Core.List.{[], ◌++◌}
+use mathlib.Core.List.{◌++◌}
 use mathlib.Core.Option.{none}
 use native.Mathlib.Omega.{arith}
 use lib.ListN.{length}
@@ -36,7 +36,9 @@ use Rattle.memory.proofs.Beyond.{beyond-same}
 use Rattle.memory.proofs.Entered.{known-one, key-new, head-missing}
 use Rattle.names.specs.Given.{given}
 use Rattle.names.specs.declared.Name as Code
-use Rattle.search.specs.declared.Sought.{Sought}
+use Rattle.bytes_key.specs.KeyBytes.{bytes_in}
+use Rattle.commit.specs.declared.new_name.NewHead.{NewHead}
+use Rattle.commit.specs.declared.new_name.NewName.{NewName}
 use Rattle.search.specs.Found.{key_behind, KeyEnded, HeadEnded, EndedBy}
 use Rattle.search.proofs.Ends.{own_key, own_new, tells}
 use Rattle.commit.specs.declared.Added.{Added}
@@ -54,7 +56,7 @@ pub counted-head : (s : Sizes) (lists : Bytes) (k d : ℕ) (r : Result ℕ Refus
     → count_in s (head_word lists k) ≡ r
 counted-head s lists k d r q e = ap (λ (j : ℕ). count_in s (word_at lists (count_at j))) (sym q) ∙ sym e
 
-module _ (s : Sizes) (pages lists : Bytes) (name : Code.Name) (x : Sought) where
+module _ (s : Sizes) (pages lists : Bytes) (name : Code.Name) where
   -- The name that is added.
   abbrev a : Name
   a = given name
@@ -62,7 +64,7 @@ module _ (s : Sizes) (pages lists : Bytes) (name : Code.Name) (x : Sought) where
   -- ---- nothing is written
 
   -- The name is stored.
-  pub adds-known : (i : ℕ) (K : KeyEnded s pages lists a.kind ((row a.kind).head a) ((row a.kind).rest a) x (Ok (P.At i))) (r : Result Added Refusal) → Knows s lists a.kind i r
+  pub adds-known : (i : ℕ) (K : KeyEnded s pages lists a.kind ((row a.kind).head a) ((row a.kind).rest a) (Ok (P.At i))) (r : Result Added Refusal) → Knows s lists a.kind i r
       → AddsName s a pages lists (added_by r) pages lists
   adds-known i K r H =
       record {
@@ -70,7 +72,7 @@ module _ (s : Sizes) (pages lists : Bytes) (name : Code.Name) (x : Sought) where
         kept = λ n. (refl, refl);
         beyond = beyond-same s pages lists;
         whole = λ st S legal.
-            let o = own_key S a legal x (Ok (P.At i)) K in
+            let o = own_key S a legal (Ok (P.At i)) K in
             let e = known-one S a legal o.0 i (subst (λ (y : Bytes). Searched s (row a.kind).main_at pages lists y (Ok (P.At i))) (sym o.1) K.searched) in
             rw e.0 (H.right st.blocks S.blocked e.1, S);
       }
@@ -81,32 +83,33 @@ module _ (s : Sizes) (pages lists : Bytes) (name : Code.Name) (x : Sought) where
       bound (Err why) h = inl h
 
   -- The memory is no dictionary's.
-  pub adds-bad : (why : Refusal) → EndedBy s pages lists a.kind ((row a.kind).head a) ((row a.kind).rest a) x (Err why) → AddsName s a pages lists (AddAnswer.refused why) pages lists
-  adds-bad why E = never s pages lists name why (ranged E) (λ st S legal. tells S a legal x (Err why) E)
+  pub adds-bad : (why : Refusal) → EndedBy s pages lists a.kind ((row a.kind).head a) ((row a.kind).rest a) (Err why) → AddsName s a pages lists (AddAnswer.refused why) pages lists
+  adds-bad why E = never s pages lists name why (ranged E) (λ st S legal. tells S a legal (Err why) E)
     where
-      ranged : EndedBy s pages lists a.kind ((row a.kind).head a) ((row a.kind).rest a) x (Err why) → why ≡ Unopened
+      ranged : EndedBy s pages lists a.kind ((row a.kind).head a) ((row a.kind).rest a) (Err why) → why ≡ Unopened
       ranged (inl H) = H.searched.range
       ranged (inr K) = K.searched.range
 
   -- ---- the name is entered
 
   -- The head is stored, or the kind has none: one entry.
-  pub adds-key : (R : InRange s) (L : Fit s pages lists) (place : ℕ) (K : KeyEnded s pages lists a.kind ((row a.kind).head a) ((row a.kind).rest a) x (Ok (P.Free place))) (key : Bytes)
-      → key_behind a.kind K.f ((row a.kind).rest a) ≡ key
+  pub adds-key : (R : InRange s) (L : Fit s pages lists) (w : NewName) → w.kind ≡ name.kind → w.head ≡ None
+      → (K : KeyEnded s pages lists a.kind ((row a.kind).head a) ((row a.kind).rest a) (Ok (P.Free w.place)))
+      → key_behind a.kind K.f ((row a.kind).rest a) ≡ bytes_in w.key.now
       → (r : AddAnswer) (pages' lists' : Bytes)
-      → EntersName s pages lists (record { kind = name.kind; place = place; head = None }) [] key r pages' lists'
+      → EntersName s pages lists w r pages' lists'
       → AddsName s a pages lists r pages' lists'
-  adds-key R L place K key e =
-      adds s pages lists name R L place None [] key (omega (arith, R.e))
-      (subst (λ (y : Bytes). Searched s (row a.kind).main_at pages lists y (Ok (P.Free place))) e K.searched)
-      (λ w. absurd (false≢true w))
-      (λ w. omega (arith, R.e))
+  adds-key R L w k n K e =
+      adds s pages lists name R L w k None n (omega (arith, R.e))
+      (subst (λ (y : Bytes). Searched s (row a.kind).main_at pages lists y (Ok (P.Free w.place))) e K.searched)
+      (λ y. absurd (false≢true y))
+      (λ y. omega (arith, R.e))
       (λ st S legal.
-      let o = own_key S a legal x (Ok (P.Free place)) K in
-      record { new_is = o.0; headed = λ w. absurd (false≢true w); numbered = λ w. absurd (false≢true w); keyed = o.1 ∙ e })
+      let o = own_key S a legal (Ok (P.Free w.place)) K in
+      record { new_is = o.0; headed = λ y. absurd (false≢true y); numbered = λ y. absurd (false≢true y); keyed = o.1 ∙ e })
 
   -- The head is not stored, and its search ended at hplace: the head and its pair.
-  module _ (hplace : ℕ) (H : HeadEnded s pages lists a.kind ((row a.kind).head a) x (Ok (P.Free hplace))) where
+  module _ (hplace : ℕ) (H : HeadEnded s pages lists a.kind ((row a.kind).head a) (Ok (P.Free hplace))) where
     pub uncounted : (why : Refusal) → count_in s (head_word lists a.kind) ≡ Err why → AddsName s a pages lists (AddAnswer.refused why) pages lists
     uncounted why e =
         never s pages lists name why (refused-count s (head_word lists a.kind) why e).0
@@ -119,7 +122,7 @@ module _ (s : Sizes) (pages lists : Bytes) (name : Code.Name) (x : Sought) where
           let e : ◌≡◌ {A = Result ℕ Refusal} (Ok f) (Ok (length (st.part a.kind).heads)) = sym counted ∙ head-counted S a.kind (kind-below name.kind) H.paired in cc
 
       key-is : {st : State} → Stands s st pages lists → checks s a ≡ none → key_of (st.part a.kind).heads a ≡ fid f ++ (row a.kind).rest a
-      key-is S legal = key-new S a legal (own_new S a legal x hplace H) ∙ ap (λ (n : ℕ). fid n ++ (row a.kind).rest a) (heads-are S)
+      key-is S legal = key-new S a legal (own_new S a legal hplace H) ∙ ap (λ (n : ℕ). fid n ++ (row a.kind).rest a) (heads-are S)
 
       -- A pair with the number that the head is about to get is never there.
       pub occupied : (r : Probe) → ((j : ℕ) → r ≡ P.Free j → ⊥) → Searched s (row a.kind).main_at pages lists (fid f ++ (row a.kind).rest a) (Ok r)
@@ -127,26 +130,27 @@ module _ (s : Sizes) (pages lists : Bytes) (name : Code.Name) (x : Sought) where
       occupied (P.At i) t q =
           never s pages lists name Unopened refl
           (λ st S legal.
-          head-missing S a legal (own_new S a legal x hplace H) i (subst (λ (y : Bytes). Searched s (row a.kind).main_at pages lists y (Ok (P.At i))) (sym (key-is S legal)) q))
+          head-missing S a legal (own_new S a legal hplace H) i (subst (λ (y : Bytes). Searched s (row a.kind).main_at pages lists y (Ok (P.At i))) (sym (key-is S legal)) q))
       occupied (P.Free j) t q = absurd (t j refl)
 
       pub unsearched : (why : Refusal) → Searched s (row a.kind).main_at pages lists (fid f ++ (row a.kind).rest a) (Err why)
           → AddsName s a pages lists (AddAnswer.refused why) pages lists
       unsearched why q = never s pages lists name why q.range (λ st S legal. main-bad s st pages lists S a.kind (kind-below name.kind) _ q)
 
-      pub adds-pair : (R : InRange s) (L : Fit s pages lists) (place : ℕ) (h : ℕ) (head key : Bytes) → (row a.kind).head a ≡ head → fid f ++ (row a.kind).rest a ≡ key
-          → Searched s (row a.kind).main_at pages lists (fid f ++ (row a.kind).rest a) (Ok (P.Free place))
+      pub adds-pair : (R : InRange s) (L : Fit s pages lists) (w : NewName) (z : NewHead) → w.kind ≡ name.kind → w.head ≡ Some z
+          → z.f ≡ f → z.place ≡ hplace → z.bytes.now ≡ (row a.kind).head a → fid f ++ (row a.kind).rest a ≡ bytes_in w.key.now
+          → Searched s (row a.kind).main_at pages lists (fid f ++ (row a.kind).rest a) (Ok (P.Free w.place))
           → (r : AddAnswer) (pages' lists' : Bytes)
-          → EntersName s pages lists (record { kind = name.kind; place = place; head = Some (record { f = f; place = hplace; h = h }) }) head key r pages' lists'
+          → EntersName s pages lists w r pages' lists'
           → AddsName s a pages lists r pages' lists'
-      adds-pair R L place h head key p e q =
-          adds s pages lists name R L place (Some (record { f = f; place = hplace; h = h })) head key H.searched.range
-          (subst (λ (y : Bytes). Searched s (row a.kind).main_at pages lists y (Ok (P.Free place))) e q)
-          (λ w. subst (λ (y : Bytes). Searched s (row a.kind).heads_at pages lists y (Ok (P.Free hplace))) p H.searched)
-          (λ w. absurd (false≢true (sym w)))
+      adds-pair R L w z k n numbered placed headed e q =
+          adds s pages lists name R L w k (Some z) n (rw placed H.searched.range)
+          (subst (λ (y : Bytes). Searched s (row a.kind).main_at pages lists y (Ok (P.Free w.place))) e q)
+          (λ y. rw (placed, headed) H.searched)
+          (λ y. absurd (false≢true (sym y)))
           (λ st S legal. record {
-            new_is = own_new S a legal x hplace H;
-            headed = λ w. p;
-            numbered = λ w. heads-are S;
+            new_is = own_new S a legal hplace H;
+            headed = λ y. sym headed;
+            numbered = λ y. heads-are S ∙ sym numbered;
             keyed = key-is S legal ∙ e;
           })

@@ -3,7 +3,7 @@ use Rattle.std.specs.Prelude.{ℕ, ◌<◌, ◌≤◌, ◌≡◌, true, false, n
 use Rattle.slices.specs.Bytes.{Bytes}
 use Rattle.words.specs.Words.{word_at}
 use Rattle.layout.specs.declared.Sizes.{Sizes}
-use Rattle.layout.specs.declared.lent.Layout.{Layout}
+use Rattle.layout.specs.declared.lent.Memory.{Memory}
 use Rattle.layout.specs.Sizes.{in_range, page_bytes, list_bytes}
 use Rattle.layout.specs.Fields.{format}
 use Rattle.refusals.specs.declared.Refusal.{Refusal}
@@ -22,9 +22,9 @@ header_of pages lists =
     (cond (ltb pages (page_bytes (sizes_in lists))) (Err Unopened)
     (cond (ltb (length lists) (list_bytes (sizes_in lists))) (Err Unopened) (Ok (sizes_in lists))))))
 
--- The sizes of a layout that the check gives.
-abbrev pub sized : Result Layout Refusal → Result Sizes Refusal
-sized (Ok x) = Ok x.sizes
+-- The sizes of the memory that the check gives.
+abbrev pub sized : Result Memory Refusal → Result Sizes Refusal
+sized (Ok x) = Ok x.lists.layout.sizes
 sized (Err why) = Err why
 
 -- The cases in which document 01 always requires refusal 3.

@@ -1,21 +1,22 @@
 // The check of the header, and an empty dictionary in lent memory.
 #![tactic(auto)]
 
-ghost use Rattle.std.specs.Prelude.{◌≡◌, ◌≤◌, length};
+ghost use Rattle.std.specs.Prelude.{◌≡◌, ◌≤◌, length, IfOk};
 ghost use Rattle.layout.specs.Sizes.{list_bytes};
 ghost use Rattle.header.specs.Header.{header_of, sized};
 ghost use Rattle.header.specs.Opened.{opened_lists};
 
-use layout::lent::Layout;
+use layout::lent::{Layout, Memory};
 use refusals::Refusal;
 use words::WORD;
 
 // "namedic2", low byte first: the first word of every dictionary's `lists`.
 const FORMAT: usize = 0x32636964656D616E;
 
-// The layout of a dictionary's memory. Unopened: the memory is no dictionary's.
-pub fn check_header(pages: &[u8], lists: &[u8]) -> Result<Layout, Refusal>
-    ensures { sized result ≡ header_of (length pages.now) lists.now }
+// The memory of a dictionary, by the sizes in its header. Unopened: the memory is no dictionary's.
+pub fn check_header<'l, 'p>(pages: &'p [u8], lists: &'l [u8]) -> Result<Memory<'l, 'p>, Refusal>
+    ensures sized { sized result ≡ header_of (length pages.now) lists.now }
+    ensures given { IfOk result (λ m. (m.lists.bytes.now ≡ lists.now) × (m.pages.now ≡ pages.now)) }
 {
     if lists.len() < 512 {
         return Err(Refusal::Unopened);
@@ -31,13 +32,7 @@ pub fn check_header(pages: &[u8], lists: &[u8]) -> Result<Layout, Refusal>
         words::number_at::<WORD>(lists, 5),
     );
     let layout = made.ok_or(Refusal::Unopened)?;
-    if pages.len() < layout.page_bytes() {
-        return Err(Refusal::Unopened);
-    }
-    if lists.len() < layout.list_bytes() {
-        return Err(Refusal::Unopened);
-    }
-    Ok(layout)
+    Memory::new(layout, lists, pages).ok_or(Refusal::Unopened)
 }
 
 // Makes `lists` the memory of a dictionary with no entry.

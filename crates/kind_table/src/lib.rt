@@ -18,8 +18,10 @@ pub enum Way {
     Pairs,
 }
 
-// What the table says of a kind: must it have no second part, must it have a tag, the dictionaries of its heads and of its names, its way.
-// Kept: two flags. They are the columns of the model's table, one for each rule of document 01.
+// What the table says of a kind: must it have no second part, must it have a tag, the dictionaries of its heads and of its names, its way. A kind without heads
+// has its own dictionary in their place, as in the model's table, and nobody asks for it.
+// Kept: two flags. Each is a column of the model's table, and the row is checked against it column by column. Worked out of the way, they would be a second table.
+// Kept: no Option of the heads. Who asks for them knows from the way that there are some, and would take the Option apart in vain.
 #[derive(Clone, Copy)]
 pub struct Row {
     pub no_second: bool,

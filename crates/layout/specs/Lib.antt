@@ -4,3 +4,4 @@ pub mod Fields
 pub mod Lent
 pub mod Numbers
 pub mod Laid
+pub mod Packed

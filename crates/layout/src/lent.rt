@@ -34,6 +34,26 @@ pub struct Memory<'l, 'p> {
     pub ghost fit: { page_bytes lists.layout.sizes ≤ length pages.now },
 }
 
+impl<'l, 'p> Memory<'l, 'p> {
+    ghost use Rattle.std.specs.Prelude.{◌≡◌, ◌&&◌, leb, length, is_some, IfSome};
+    ghost use Rattle.layout.specs.Sizes.{page_bytes, list_bytes};
+
+    // The memory in these slices, if they are long enough.
+    pub fn new(layout: Layout, lists: &'l [u8], pages: &'p [u8]) -> Option<Memory<'l, 'p>>
+        ensures fit { is_some result ≡ (leb (page_bytes layout.sizes) (length pages.now) && leb (list_bytes layout.sizes) (length lists.now)) }
+        ensures given { IfSome result (λ m. (m.lists.layout.sizes ≡ layout.sizes) × (m.lists.bytes.now ≡ lists.now) × (m.pages.now ≡ pages.now)) }
+    {
+        if pages.len() < layout.page_bytes() || lists.len() < layout.list_bytes() {
+            return None;
+        }
+        let lists = Lists {
+            layout,
+            bytes: lists,
+        };
+        Some(Memory { lists, pages })
+    }
+}
+
 impl Layout {
     ghost use Rattle.std.specs.Prelude.{◌≡◌, ◌≤◌};
     ghost use Rattle.layout.specs.Sizes.{made, kinds, dictionaries, page_size, page_bytes, list_bytes};
@@ -72,7 +92,7 @@ impl Layout {
     }
 
     // The first word of dictionary d. The blocks' words follow those of the last dictionary.
-    // Kept: a number, as below. The dictionary behind the last one may be asked for, and a type would ask more of callers.
+    // Kept: a number, as below. The contract takes the number behind the last dictionary too, as it always did, and a type would ask more.
     pub fn dict_at(&self, d: usize) -> usize
         requires { d ≤ dictionaries }
         ensures { result ≡ dict_at self.now.sizes d }
@@ -82,7 +102,7 @@ impl Layout {
     }
 
     // The first word of kind k's local blocks. The global blocks' words follow those of the last kind.
-    // Kept: a number. It is also asked for the row behind the last kind.
+    // Kept: a number. It is also asked for the words behind those of the last kind.
     pub fn blocks_at(&self, k: usize) -> usize
         requires { k ≤ kinds }
         ensures { result ≡ blocks_at self.now.sizes k }

@@ -2,6 +2,7 @@
 #![tactic(auto)]
 
 pub mod lent;
+pub mod packed;
 
 ghost use Rattle.std.specs.Prelude.{◌≡◌, ◌<◌};
 ghost use Rattle.layout.specs.Sizes.{within, made, limit, kinds, dictionaries};
@@ -86,18 +87,8 @@ pub const STRIDE: usize = 4;
 
 pub const PAGES: usize = 64;
 
-// Several numbers in one word. A page: its owner below OWNERS, then its used bytes below OFFSETS, then its position from POSITION up.
-// An entry: its page below PAGE_NUMBERS, then its offset below OFFSETS, then its length from LENGTH up. A block: 1 + its kind below OWNERS, then its local block.
-// An index place: its entry + 1 below ENTRY_NUMBERS, then the top bits of the hash.
-pub const OWNERS: usize = 16;
-
-pub const OFFSETS: usize = 2097152;
-
-pub const POSITION: usize = 33554432;
-
+// A page's number is below this, and an entry's number + 1 is below that.
 pub const PAGE_NUMBERS: usize = 1024;
-
-pub const LENGTH: usize = 2147483648;
 
 pub const ENTRY_NUMBERS: usize = 2097152;
 

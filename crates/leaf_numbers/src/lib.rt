@@ -3,7 +3,7 @@
 
 ghost use Rattle.std.specs.Prelude.{◌≡◌};
 ghost use Rattle.ranked_pair_iri_dv_dict.specs.Split.{length_of};
-ghost use Rattle.leaf_numbers.specs.Numbers.{yes_no, written_numbers, value_numbers, unpacked_numbers};
+ghost use Rattle.leaf_numbers.specs.Numbers.{written_numbers, value_numbers, unpacked_numbers};
 
 use ranked_pair_dictionary::FrequentId;
 use refusals::Refusal;
@@ -36,14 +36,8 @@ pub struct NamedictUnpacked {
     pub tag_len: u64,
 }
 
-// 1 for yes, 0 for no.
-pub fn yes_no(answer: bool) -> u64
-    ensures { result ≡ yes_no answer }
-{
-    u64::from(answer)
-}
-
 // The length of a head, 0 for none.
+// Kept: a function. `From` has to stand beside one of its two types, and both are std's.
 pub fn head_number(answer: Option<usize>) -> u64
     ensures { result ≡ length_of answer }
 {

@@ -8,7 +8,8 @@ ghost use Rattle.meta_dv_dict.specs.Answers.{Globals, Locals};
 
 use blocks::LocalId;
 use layout::lent::{Layout, Lists};
-use layout::{KINDS, Kind, OWNERS};
+use layout::packed::BlockOwner;
+use layout::{KINDS, Kind};
 use refusals::Refusal;
 use words::WORD;
 
@@ -16,16 +17,21 @@ use words::WORD;
 #[derive(Clone, Copy, Debug, PartialEq, Eq)]
 pub struct GlobalId(pub usize);
 
+// The number in a block that has n's place there.
+fn in_block(layout: &Layout, block: usize, n: usize) -> usize
+    requires { block < layout.now.sizes.b }
+    ensures { result ≡ block * 2 ^ layout.now.sizes.w + n % 2 ^ layout.now.sizes.w }
+{
+    let size = blocks::block_size(layout);
+    block * size + n % size
+}
+
 // The global number of a local number that is in the block g.
 pub fn number_in(layout: &Layout, g: usize, local: LocalId) -> GlobalId
     requires { g < layout.now.sizes.b }
     ensures { result ≡ record { 0 = g * 2 ^ layout.now.sizes.w + local.0 % 2 ^ layout.now.sizes.w } }
 {
-    let size = blocks::block_size(layout);
-    let rest = local.0 % size;
-    let start = g * size;
-    let number = start + rest;
-    GlobalId(number)
+    GlobalId(in_block(layout, g, local.0))
 }
 
 // The global number of the kind's local number. Unopened: the memory is no dictionary's.
@@ -54,25 +60,21 @@ pub fn global_to_local(lists: &Lists<'_>, number: GlobalId) -> Result<Option<Own
     ensures { Locals lists.now.layout.sizes lists.now.bytes.now number.0 result }
 {
     let n = number.0;
-    let size = blocks::block_size(&lists.layout);
-    let g = n / size;
+    let g = n / blocks::block_size(&lists.layout);
     let b = lists.layout.sizes.b;
     if b <= g {
         return Ok(None);
     }
-    let x = words::number_at::<WORD>(lists.bytes, lists.layout.blocks_at(KINDS) + g);
-    if x == 0 {
+    let word = words::number_at::<WORD>(lists.bytes, lists.layout.blocks_at(KINDS) + g);
+    let Some(owner) = BlockOwner::of(word) else {
         return Ok(None);
-    }
-    let Ok(kind) = Kind::try_from((x - 1) % OWNERS) else {
+    };
+    let Ok(kind) = Kind::try_from(owner.kind) else {
         return Err(Refusal::Unopened);
     };
-    let l = (x - 1) / OWNERS;
-    if b <= l {
+    if b <= owner.block {
         return Err(Refusal::Unopened);
     }
-    let rest = n % size;
-    let start = l * size;
-    let local = LocalId(start + rest);
+    let local = LocalId(in_block(&lists.layout, owner.block, n));
     Ok(Some(Owner { kind, local }))
 }

@@ -22,7 +22,7 @@ pub fn namedict_is_text(bytes: &[u8]) -> u64
     ensures value { result ≡ yes_no (is_text bytes.now) }
     ensures kept { bytes.exit.now ≡ bytes.entry.now }
 {
-    leaf_numbers::yes_no(utf8::is_text(bytes))
+    u64::from(utf8::is_text(bytes))
 }
 
 // The length of an IRI's head, 0 where it has none.

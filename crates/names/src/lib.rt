@@ -3,20 +3,24 @@
 
 ghost use Rattle.std.specs.Prelude.{◌≡◌, true, ◌&&◌, ◌≤◌, length, IfOk};
 ghost use Rattle.utf8.specs.Text.{is_text};
+ghost use Rattle.parts.specs.Parts.{part_bytes, bytes_of};
 ghost use Rattle.refusals.specs.Checked.{checked_by};
 ghost use Rattle.layout.specs.Numbers.{kind_number};
+ghost use Rattle.model.specs.Kinds.{row};
 ghost use Rattle.model.specs.Names.{entered};
 ghost use Rattle.model.specs.Steps.{shape_refusal, text_refusal};
+ghost use Rattle.kind_table.specs.Rows.{front_mode};
 ghost use Rattle.names.specs.Given.{given, shaped, head_size, rest_behind};
 
 use blocks::LocalId;
 use bytes_dictionary::EntryId;
 use kind_table::Row;
 use layout::{Kind, Sizes};
+use parts::Part;
 use refusals::Refusal;
 
 // A name's local number is the number of its entry in the kind's main dictionary.
-// Kept: two functions, for From is no plainer. It has to stand beside one of the two types, and neither type's crate knows the other.
+// Kept: two functions. `From` has to stand beside one of the two types, and neither type's crate knows the other.
 pub fn entry_to_local(id: EntryId) -> LocalId
     ensures { result.0 ≡ id.0 }
 {
@@ -30,7 +34,7 @@ pub fn local_to_entry(local: LocalId) -> EntryId
 }
 
 // A name as it is looked for: its kind, and its two parts as the caller gives them.
-// Kept: no ghost field says that the shape is legal. That depends on the sizes, which a name does not have.
+// Kept: no ghost field says that the shape is legal. It is legal for some sizes, by the limit that they give (docs/DECISIONS.md, "Limits"), and a name has no sizes.
 #[derive(Clone, Copy)]
 pub struct Name<'a> {
     pub kind: Kind,
@@ -39,6 +43,7 @@ pub struct Name<'a> {
 }
 
 // Whether both parts are text. `ascii`: the caller knows already that they are.
+// Kept: what `ascii` stands for is asked here and below. A type for it would be made by the search and taken apart by this test, with nothing between them.
 fn are_text(first: &[u8], second: &[u8], ascii: bool) -> bool
     requires { ascii ≡ true → (is_text first.now ≡ true) × (is_text second.now ≡ true) }
     ensures { result ≡ (is_text first.now && is_text second.now) }
@@ -90,7 +95,18 @@ impl<'a> Name<'a> {
         Ok(())
     }
 
+    // The second part as it is stored in front of the first, where the kind has no heads.
+    pub fn front(&self) -> Part<'a>
+        ensures { part_bytes result ≡ bytes_of (front_mode (row (kind_number self.now.kind)).way) self.now.second.now }
+    {
+        Part {
+            mode: Row::of(self.kind).front_mode(),
+            bytes: self.second,
+        }
+    }
+
     // How many bytes of the first part are the head, where the kind has heads.
+    // Kept: two methods, for the length and for what is behind it. Both as two slices would be taken apart at once at each of the three places that ask.
     pub fn head_length(&self) -> usize
         ensures { (result ≡ head_size (kind_number self.now.kind) self.now.first.now) × (result ≤ length self.now.first.now) }
     {

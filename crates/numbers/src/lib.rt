@@ -10,14 +10,14 @@ ghost use Rattle.dictionary_read.specs.Answers.{told_by, counted_by};
 ghost use Rattle.numbers.specs.Numbers.{open_number, refused_numbers, add_numbers, find_numbers, name_numbers, count_numbers};
 
 use commit::Added;
-use dictionary_read::Told;
+use locate::pieces::Told;
 use meta_dv_dict::GlobalId;
 use refusals::Refusal;
 
 // What add and find return. The word says which answer: 0 none, 1 fresh, 2 known.
 // Kept: the C interface returns structs of numbers, here and below.
 #[repr(C)]
-#[derive(Clone, Copy)]
+#[derive(Clone, Copy, PartialEq, Eq)]
 pub struct NamedictNumbered {
     pub refusal: u64,
     pub word: u64,
@@ -26,7 +26,7 @@ pub struct NamedictNumbered {
 
 // What read returns. The word is 4 for a name, 0 for none.
 #[repr(C)]
-#[derive(Clone, Copy)]
+#[derive(Clone, Copy, PartialEq, Eq)]
 pub struct NamedictName {
     pub refusal: u64,
     pub word: u64,
@@ -37,7 +37,7 @@ pub struct NamedictName {
 
 // What count returns.
 #[repr(C)]
-#[derive(Clone, Copy)]
+#[derive(Clone, Copy, PartialEq, Eq)]
 pub struct NamedictCounted {
     pub refusal: u64,
     pub count: u64,

@@ -6,7 +6,8 @@ ghost use Rattle.layout.specs.Numbers.{dictionary_number};
 ghost use Rattle.layout.specs.Fields.{page_at};
 ghost use Rattle.page_words.specs.Written.{extended_page, took_page};
 
-use layout::{CURRENT, Dictionary, OWNERS, PAGE_NUMBERS, PAGES, POSITION, STRIDE, TAKEN, UNTAKEN};
+use layout::packed::PageState;
+use layout::{CURRENT, Dictionary, PAGE_NUMBERS, PAGES, STRIDE, TAKEN, UNTAKEN};
 use words::WORD;
 
 // Marks the page as used up to `used`. Its owner and its position stay.
@@ -15,12 +16,9 @@ pub fn extend(lists: &mut [u8], page: usize, used: usize)
     requires { (8 * page_at page + 8 ≤ length lists.old) × (used < 2097152) }
     ensures { lists.new ≡ extended_page lists.old page used }
 {
-    let w = words::number_at::<WORD>(lists, PAGES + page);
-    words::put_number::<WORD>(
-        lists,
-        PAGES + page,
-        w % OWNERS + OWNERS * used + POSITION * (w / POSITION),
-    );
+    let mut state = PageState::from(words::number_at::<WORD>(lists, PAGES + page));
+    state.used = used;
+    words::put_number::<WORD>(lists, PAGES + page, state.word());
 }
 
 // Makes the page the current one of dictionary d, used up to `used`. The page after it becomes the lowest untaken one.
@@ -32,11 +30,12 @@ pub fn take_page(lists: &mut [u8], d: Dictionary, page: usize, used: usize)
     let d = usize::from(d);
     // While a page is left, a dictionary has fewer than 1,024 pages. So the remainder is the number itself.
     let taken = words::number_at::<WORD>(lists, TAKEN + STRIDE * d) % PAGE_NUMBERS;
-    words::put_number::<WORD>(
-        lists,
-        PAGES + page,
-        d + 1 + OWNERS * used + POSITION * taken,
-    );
+    let state = PageState {
+        owner: d + 1,
+        used,
+        position: taken,
+    };
+    words::put_number::<WORD>(lists, PAGES + page, state.word());
     words::put_number::<WORD>(lists, TAKEN + STRIDE * d, taken + 1);
     words::put_number::<WORD>(lists, CURRENT + STRIDE * d, page + 1);
     words::put_number::<WORD>(lists, UNTAKEN, page + 1);

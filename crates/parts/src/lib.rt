@@ -1,7 +1,7 @@
-// A part of a name as it is stored: a slice with a mode. Only this crate knows how a mode is stored.
+// A part of a name as it is stored: a slice with a mode. Only this crate puts a tag together; `encoding` says what is stored for each byte.
 #![tactic(auto)]
 
-ghost use Rattle.std.specs.Prelude.{◌≡◌, ◌++◌, ◌+◌, ◌^◌, ◌≤◌, ◌<◌, length, drop};
+ghost use Rattle.std.specs.Prelude.{◌≡◌, ◌++◌, ◌^◌, ◌≤◌, ◌<◌, length, drop};
 ghost use Rattle.std.proofs.lemmas.List.Edits.{sets};
 ghost use Rattle.fnv.specs.Fnv.{fnv_from};
 ghost use Rattle.slices.specs.Bytes.{same_bytes};
@@ -19,6 +19,7 @@ pub enum Mode {
 }
 
 // A slice, and how it is stored.
+// Kept: a mode beside the slice. The kind's row gives the mode, and an enum around the slice would be made of it by one more match.
 #[derive(Clone, Copy)]
 pub struct Part<'a> {
     pub mode: Mode,
@@ -26,6 +27,7 @@ pub struct Part<'a> {
 }
 
 // Kept: a loop. With `copy_from_slice` the archive needs memmove from the program that links it. As it stands, it needs memset alone.
+// Kept: its index. Over `dst.iter_mut().zip(s)` it is not provable: behind an adapter of `iter_mut` nothing is known of what was written.
 fn write_raw(s: &[u8], dst: &mut [u8])
     requires { length s.now ≤ length dst.old }
     ensures { dst.new ≡ sets dst.old 0 s.now }
@@ -35,7 +37,7 @@ fn write_raw(s: &[u8], dst: &mut [u8])
     }
 }
 
-// What stands behind the byte in front of a tag is measured, written, hashed and compared by these four, each in one walk over the tag.
+// What stands behind the byte in front of a tag is measured, written, hashed and compared by these four, each in a walk over the tag; comparing measures first.
 // Kept: four walks. As one iterator over what is stored for each byte, a tag of 16 bytes took 90 instructions more to measure, and 25 more to hash.
 // Kept: the form beside the tag. Where each of the four asked for it, a comparison took 13 instructions more.
 
@@ -46,12 +48,11 @@ fn measure_encoded(form: Form, tag: &[u8]) -> usize
     width + form.end().width()
 }
 
-// Writes from `start` on.
-fn write_encoded(form: Form, tag: &[u8], dst: &mut [u8], start: usize)
-    requires { start + length (encoded form tag.now) ≤ length dst.old }
-    ensures { dst.new ≡ sets dst.old start (encoded form tag.now) }
+fn write_encoded(form: Form, tag: &[u8], dst: &mut [u8])
+    requires { length (encoded form tag.now) ≤ length dst.old }
+    ensures { dst.new ≡ sets dst.old 0 (encoded form tag.now) }
 {
-    let mut at = start;
+    let mut at = 0;
     for b in tag {
         at = form.encode(*b).put(dst, at);
     }
@@ -66,30 +67,21 @@ fn hash_encoded(start: u32, form: Form, tag: &[u8]) -> u32
 }
 
 // Whether the bytes are the same.
-// Kept: a loop. `==` of two slices is a call. With it a search needs 216 bytes of stack, with the loop 64.
+// Kept: not `==` of two slices. That is a call, and with it a search needs 216 bytes of stack, with a loop 64. An add has to stay under 1 KiB.
 fn same_raw(s: &[u8], stored: &[u8]) -> bool
     ensures { result ≡ same_bytes s.now stored.now }
 {
-    if s.len() != stored.len() {
-        return false;
-    }
-    for (i, b) in s.iter().enumerate() {
-        if *b != stored[i] {
-            return false;
-        }
-    }
-    true
+    s.len() == stored.len() && s.iter().zip(stored).all(|(a, b)| *a == *b)
 }
 
-// Whether they are stored from `start` to the end. The lengths are compared first, so no byte needs a test for the end.
-fn same_encoded(form: Form, tag: &[u8], stored: &[u8], start: usize) -> bool
-    requires { start ≤ length stored.now }
-    ensures { result ≡ same_bytes (encoded form tag.now) (drop start stored.now) }
+// Compares all of `stored`. The lengths are compared first, so no byte needs a test for the end.
+fn same_encoded(form: Form, tag: &[u8], stored: &[u8]) -> bool
+    ensures { result ≡ same_bytes (encoded form tag.now) stored.now }
 {
-    if stored.len() - start != measure_encoded(form, tag) {
+    if stored.len() != measure_encoded(form, tag) {
         return false;
     }
-    let mut at = start;
+    let mut at = 0;
     for b in tag {
         let piece = form.encode(*b);
         if !piece.stands_at(stored, at) {
@@ -130,6 +122,7 @@ impl<'a> Part<'a> {
     }
 
     // How many bytes are stored. Escaping at most doubles a tag and adds two; `requires` excludes overflow.
+    // Kept: this is asked here and where a key is made or measured. A part does not hold it, since `Part::tag` takes any slice and would have to ask for it.
     #[tactic(auto, unfolding(crate::specs::Parts::bytes_of))]
     #[inline(always)]
     pub fn measure(self) -> usize
@@ -154,7 +147,7 @@ impl<'a> Part<'a> {
             Mode::Raw => write_raw(s, dst),
             Mode::Tag => {
                 dst[0] = encoding::first_byte(s);
-                write_encoded(Form::of(s), s, dst, 1);
+                write_encoded(Form::of(s), s, &mut dst[1..]);
             }
         }
     }
@@ -184,8 +177,8 @@ impl<'a> Part<'a> {
         match self.mode {
             Mode::Raw => same_raw(s, stored),
             Mode::Tag => {
-                encoding::has_byte(stored, 0, encoding::first_byte(s))
-                    && same_encoded(Form::of(s), s, stored, 1)
+                stored.first() == Some(&encoding::first_byte(s))
+                    && same_encoded(Form::of(s), s, &stored[1..])
             }
         }
     }

@@ -5,13 +5,13 @@ ghost use Rattle.std.specs.Prelude.{◌≤◌};
 ghost use Rattle.layout.specs.Sizes.{page_size};
 ghost use Rattle.layout.specs.Numbers.{kind_number};
 ghost use Rattle.plan.specs.Plans.{Plans};
-ghost use Rattle.plan_room.specs.Steps.{is_new, head_number};
+ghost use Rattle.plan_room.specs.Steps.{is_new, head_number, head_size};
 
 use bytes_buffer::Spot;
 use kind_table::Row;
 use layout::Kind;
 use layout::lent::Lists;
-use plan_room::{Chosen, Room};
+use plan_room::{Chosen, Head, Room};
 use refusals::Refusal;
 
 // What an add writes: the number of the main entry, the spots of the head, if it is a new one, and of the main entry, the block and the stamp.
@@ -24,19 +24,18 @@ pub struct Plan {
     pub stamp: usize,
 }
 
-// Decides where a head of `size` bytes, if it is a new one, and a key of len bytes go: refusals 8, 9, 10 of both together. `head`: the number of a new head.
+// Decides where a head, if it is a new one, and a key of len bytes go: refusals 8, 9, 10 of both together.
 pub fn plan_name(
     lists: &Lists<'_>,
     kind: Kind,
-    head: Option<usize>,
-    size: usize,
+    head: Option<Head>,
     len: usize,
 ) -> Result<Plan, Refusal>
-    requires { (size ≤ page_size lists.now.layout.sizes) × (len ≤ page_size lists.now.layout.sizes) }
-    ensures { Plans lists.now.layout.sizes lists.now.bytes.now (kind_number kind) (is_new head) (head_number head) size len result }
+    requires { (head_size head ≤ page_size lists.now.layout.sizes) × (len ≤ page_size lists.now.layout.sizes) }
+    ensures { Plans lists.now.layout.sizes lists.now.bytes.now (kind_number kind) (is_new head) (head_number head) (head_size head) len result }
 {
-    let Room { n, untaken } = plan_room::check_room(lists, kind, head.unwrap_or(0))?;
-    let head_spot = plan_room::plan_head(lists, kind, head, untaken, size)?;
+    let Room { n, untaken } = plan_room::check_room(lists, kind, head)?;
+    let head_spot = plan_room::plan_head(lists, kind, head, untaken)?;
     let next = bytes_buffer::untaken_after(untaken, head_spot);
     let spot = bytes_buffer::plan(lists, Row::of(kind).main, next, len)?;
     let Chosen { g, stamp } = plan_room::choose_block(lists, kind, n)?;

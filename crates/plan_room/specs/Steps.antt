@@ -1,5 +1,5 @@
 -- What the steps of a plan answer: the spot of a new head, the next stamp, the block and the stamp of a name, the room in the lists. Assumes nothing.
-use Rattle.std.specs.Prelude.{ℕ, ◌*◌, ◌/◌, ◌^◌, ◌≤◌, ◌<◌, ◌≡◌, ◌⊎◌, Bool, true, false, cond, unwrap_or, Some, None, Result, Ok, Err}
+use Rattle.std.specs.Prelude.{ℕ, ◌*◌, ◌/◌, ◌^◌, ◌≤◌, ◌<◌, ◌≡◌, ◌⊎◌, Bool, true, false, cond, Some, None, Result, Ok, Err}
 use Rattle.std.specs.Prelude as Rust
 use Rattle.std.proofs.Math.Option.{Option, none, some}
 use Rattle.slices.specs.Bytes.{Bytes}
@@ -18,17 +18,23 @@ use Rattle.model.specs.Kinds.{row}
 use Rattle.model.specs.State.{State, stamp_of}
 use Rattle.memory.specs.Stands.{Stands}
 use Rattle.plan_room.specs.declared.Chosen.{Chosen}
+use Rattle.plan_room.specs.declared.Head.{Head}
 use Rattle.plan_room.specs.declared.Room.{Room}
 
 -- ---- a new head, if there is one
 
--- Is there a new head? Its number; 0 without one.
-abbrev pub is_new : Rust.Option ℕ → Bool
+-- Is there a new head? Its number, and how many bytes it has; 0 without one.
+abbrev pub is_new : Rust.Option Head → Bool
 is_new None = false
-is_new (Some f) = true
+is_new (Some x) = true
 
-abbrev pub head_number : Rust.Option ℕ → ℕ
-head_number o = unwrap_or o 0
+abbrev pub head_number : Rust.Option Head → ℕ
+head_number None = 0
+head_number (Some x) = x.f
+
+abbrev pub head_size : Rust.Option Head → ℕ
+head_size None = 0
+head_size (Some x) = x.size
 
 -- Where the head goes. A head that is not new goes nowhere.
 abbrev pub some_spot : Result Spot Refusal → Result (Rust.Option Spot) Refusal

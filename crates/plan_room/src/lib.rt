@@ -4,7 +4,7 @@
 ghost use Rattle.std.specs.Prelude.{◌≤◌};
 ghost use Rattle.layout.specs.Sizes.{page_size};
 ghost use Rattle.layout.specs.Numbers.{kind_number};
-ghost use Rattle.plan_room.specs.Steps.{is_new, PlansHead, Stamps, Chooses, RoomIn};
+ghost use Rattle.plan_room.specs.Steps.{is_new, head_number, head_size, PlansHead, Stamps, Chooses, RoomIn};
 
 use blocks::LocalId;
 use bytes_buffer::Spot;
@@ -13,21 +13,27 @@ use layout::Kind;
 use layout::lent::Lists;
 use refusals::Refusal;
 
-// Where a head of `size` bytes goes. `head`: its number, if it is a new one. No other head is entered.
+// A new head: its number, and how many bytes it has.
+#[derive(Clone, Copy)]
+pub struct Head {
+    pub f: usize,
+    pub size: usize,
+}
+
+// Where a new head goes, if there is one. No other head is entered.
 pub fn plan_head(
     lists: &Lists<'_>,
     kind: Kind,
-    head: Option<usize>,
+    head: Option<Head>,
     untaken: usize,
-    size: usize,
 ) -> Result<Option<Spot>, Refusal>
-    requires { size ≤ page_size lists.now.layout.sizes }
-    ensures { PlansHead lists.now.layout.sizes lists.now.bytes.now (kind_number kind) (is_new head) untaken size result }
+    requires { head_size head ≤ page_size lists.now.layout.sizes }
+    ensures { PlansHead lists.now.layout.sizes lists.now.bytes.now (kind_number kind) (is_new head) untaken (head_size head) result }
 {
-    if head.is_none() {
+    let Some(head) = head else {
         return Ok(None);
-    }
-    let spot = bytes_buffer::plan(lists, Row::of(kind).heads, untaken, size)?;
+    };
+    let spot = bytes_buffer::plan(lists, Row::of(kind).heads, untaken, head.size)?;
     Ok(Some(spot))
 }
 
@@ -67,12 +73,17 @@ pub struct Room {
     pub untaken: usize,
 }
 
-// Looks whether the lists have room for a name of the kind, and for a head with the number f.
-pub fn check_room(lists: &Lists<'_>, kind: Kind, f: usize) -> Result<Room, Refusal>
-    ensures { RoomIn lists.now.layout.sizes lists.now.bytes.now (kind_number kind) f result }
+// Looks whether the lists have room for a name of the kind, and for its head, if it is a new one.
+pub fn check_room(lists: &Lists<'_>, kind: Kind, head: Option<Head>) -> Result<Room, Refusal>
+    ensures { RoomIn lists.now.layout.sizes lists.now.bytes.now (kind_number kind) (head_number head) result }
 {
     let n = bytes_dictionary::count(lists, Row::of(kind).main)?;
     let e = lists.layout.sizes.e;
+    // Kept: a match. Tried: `is_some_and` of the head. The check did not see what the closure answers.
+    let f = match head {
+        Some(head) => head.f,
+        None => 0,
+    };
     if e <= n || e <= f {
         return Err(Refusal::ListFull);
     }

@@ -32,7 +32,7 @@ pub fn further_bytes(value: usize) -> usize
 }
 
 // A frequent id by value, or no bytes: the first `len` of four bytes, with zeros behind them. A contract sees these first bytes.
-// Kept: a length beside the bytes. There is no heap here, and four bytes fit into a register.
+// Kept: a length beside the bytes. There is no heap here, and of a lead with no bytes no byte could say its length.
 #[derive(Clone, Copy)]
 pub struct Lead {
     bytes: [u8; 4],
@@ -87,7 +87,8 @@ pub fn lead_of(value: usize) -> Lead
 }
 
 // Writes the form at the buffer's start, and gives its length.
-// Kept: a loop over the digits. With a copy of the lead the archive needs memcpy from the program that links it. As it stands, it needs memset alone.
+// Kept: a loop over the digits. Tried: through `Part::write` of the lead, or with a copy of it, the archive needs memcpy from the program that links it. As it
+// stands, it needs memset alone.
 fn put_frequent_id(value: usize, buffer: &mut [u8]) -> usize
     requires { (value < 2 ^ 30) × (length (fid value) ≤ length buffer.old) }
     ensures { (result ≡ length (fid value)) × (buffer.new ≡ fid value ++ drop (length (fid value)) buffer.old) }

@@ -9,40 +9,26 @@ use std::fmt;
 
 #[derive(Clone, Copy, Debug, PartialEq, Eq)]
 pub enum Refusal {
-    BadSize,
-    ShortMemory,
-    Unopened,
-    BadKind,
-    TooLong,
-    NotText,
-    NoTag,
-    ListFull,
-    NoPage,
-    NoBlock,
-    ShortBuffer,
-    HighNumber,
-    CutForm,
+    BadSize = 1,
+    ShortMemory = 2,
+    Unopened = 3,
+    BadKind = 4,
+    TooLong = 5,
+    NotText = 6,
+    NoTag = 7,
+    ListFull = 8,
+    NoPage = 9,
+    NoBlock = 10,
+    ShortBuffer = 11,
+    HighNumber = 12,
+    CutForm = 13,
 }
 
 impl From<Refusal> for u64 {
     ghost from_gives = { λ why n. n ≡ refusal_number why };
 
     fn from(why: Refusal) -> u64 {
-        match why {
-            Refusal::BadSize => 1,
-            Refusal::ShortMemory => 2,
-            Refusal::Unopened => 3,
-            Refusal::BadKind => 4,
-            Refusal::TooLong => 5,
-            Refusal::NotText => 6,
-            Refusal::NoTag => 7,
-            Refusal::ListFull => 8,
-            Refusal::NoPage => 9,
-            Refusal::NoBlock => 10,
-            Refusal::ShortBuffer => 11,
-            Refusal::HighNumber => 12,
-            Refusal::CutForm => 13,
-        }
+        why as u64
     }
 }
 

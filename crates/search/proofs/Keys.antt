@@ -26,6 +26,10 @@ pub raw-key : (front rest : Bytes) → key_bytes Raw front Raw rest ≡ front ++
 unfolding bytes_of
 raw-key front rest = refl
 
+pub raw-rest : (mode : Mode) (front rest : Bytes) → key_bytes mode front Raw rest ≡ bytes_of mode front ++ rest
+unfolding bytes_of
+raw-rest mode front rest = refl
+
 -- A scan of the whole key.
 pub scanned-hash : (key : Bytes) (h : ℕ) → h ≡ fnv_from 2166136261 key → h ≡ fnv_of key
 unfolding fnv_of

@@ -2,3 +2,4 @@
 pub mod Keys
 pub mod Ends
 pub mod Ascii
+pub mod Legal

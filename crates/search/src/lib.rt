@@ -13,12 +13,12 @@ ghost use Rattle.bytes_index.specs.Search.{Searched};
 ghost use Rattle.names.specs.Given.{given};
 ghost use Rattle.model.specs.Kinds.{row};
 ghost use Rattle.model.specs.Steps.{shape_refusal};
-ghost use Rattle.search.specs.Found.{EndsKey, Ended, SearchEnded};
+ghost use Rattle.search.specs.Found.{EndsKey, EndedBy, SearchEnded, NameSought};
 
 use blocks::LocalId;
 use bytes_dictionary::EntryId;
 use bytes_index::Probe;
-use bytes_key::{Key, Parts};
+use bytes_key::Key;
 use fnv::Scanned;
 use kind_table::Row;
 use layout::Kind;
@@ -28,11 +28,27 @@ use parts::Part;
 use ranked_pair_dictionary::Lead;
 use refusals::Refusal;
 
-// The empty place at which a search ended: that of the name's key, or that of its head, which is not stored.
+// Where the search for a key ended, and what an add of it needs: the empty place, the key's hash, and the lead in front of the rest, where the kind has heads.
+// Kept: an empty lead where it has none, and no Option. The kind says which it is, and an Option would say it once more.
+#[derive(Clone, Copy)]
+pub struct KeyPlace {
+    pub place: usize,
+    pub h: u32,
+    pub lead: Lead,
+}
+
+// Where the search for a head ended: the empty place, and the head's hash.
+#[derive(Clone, Copy)]
+pub struct HeadPlace {
+    pub place: usize,
+    pub h: u32,
+}
+
+// The end of a search for a name that is not stored: at its key's place, or at that of its head, which is not stored either.
 #[derive(Clone, Copy)]
 pub enum Place {
-    Key(usize),
-    Head(usize),
+    Key(KeyPlace),
+    Head(HeadPlace),
 }
 
 // A name's local number, or the place of a name that is not stored.
@@ -43,133 +59,99 @@ pub enum Search {
     Missing(Place),
 }
 
-// What the search says of a name, and all that an add of it needs: the lead in front of its rest, if its head is stored; the hashes of its key and of its head.
-// `found` is Unopened if the memory is no dictionary's. `ascii`: the search has seen every byte of the name, and all are ASCII.
+// What the search has seen of a name. `found` is Unopened if the memory is no dictionary's. `ascii`: it has seen every byte of the name, and all are ASCII.
 // Kept: `ascii` is a flag. It stands beside any answer and belongs to no other field, so an Option of a field is no plainer.
 #[derive(Clone, Copy)]
-pub struct Sought {
-    pub found: Result<Search, Refusal>,
-    pub ascii: bool,
-    pub lead: Lead,
-    pub h: u32,
-    pub head_hash: u32,
+struct Sought {
+    found: Result<Search, Refusal>,
+    ascii: bool,
 }
 
 // The search for a head of the kind, whose hash is h.
+// Kept: the hash is asked for as where a key is made. Within its one caller this would be no plainer.
 fn find_head(memory: &Memory<'_, '_>, kind: Kind, h: u32, head: &[u8]) -> Result<Probe, Refusal>
     requires { h ≡ fnv_of head.now }
     ensures { Searched memory.now.lists.layout.sizes (row (kind_number kind)).heads_at memory.now.pages.now memory.now.lists.bytes.now head.now result }
 {
-    let key = Key {
-        d: Row::of(kind).heads,
-        h,
-        parts: Parts {
-            front: Part::raw(&head[..0]),
-            rest: Part::raw(head),
-        },
-    };
-    bytes_index::bytes_to_id(memory, &key)
+    bytes_index::bytes_to_id(memory, &Key::whole(Row::of(kind).heads, h, head))
 }
 
-// The search for a key among the names of the kind k, whose dictionary the key has.
-fn find_key(memory: &Memory<'_, '_>, kind: Kind, key: &Key<'_, '_>) -> Result<Search, Refusal>
+// The search for a key among the names of its kind. `lead` is the front of the key, where the kind has heads.
+fn find_key(
+    memory: &Memory<'_, '_>,
+    kind: Kind,
+    key: &Key<'_, '_>,
+    lead: Lead,
+) -> Result<Search, Refusal>
     requires { dictionary_number key.now.d ≡ (row (kind_number kind)).main_at }
-    ensures { EndsKey memory.now.lists.layout.sizes memory.now.pages.now memory.now.lists.bytes.now (kind_number kind) (bytes_in key.now) result }
+    ensures { EndsKey memory.now.lists.layout.sizes memory.now.pages.now memory.now.lists.bytes.now (kind_number kind) (bytes_in key.now) lead result }
 {
     Ok(match bytes_index::bytes_to_id(memory, key)? {
         Probe::At(i) => Search::Found(names::entry_to_local(EntryId(i))),
-        Probe::Free(place) => Search::Missing(Place::Key(place)),
+        Probe::Free(place) => Search::Missing(Place::Key(KeyPlace {
+            place,
+            h: key.h,
+            lead,
+        })),
     })
 }
 
-// The answer of a search that has found no head.
-fn headless(found: Result<Search, Refusal>, head_hash: u32) -> Sought
-    ensures { (result.found ≡ found) × (result.head_hash ≡ head_hash) × (result.ascii ≡ false) }
-{
-    Sought {
-        found,
-        ascii: false,
-        lead: Lead::empty(),
-        h: 0,
-        head_hash,
-    }
-}
-
-// The search for a rest behind the head number f. The hash and the bits of the head are x.
-fn find_behind(memory: &Memory<'_, '_>, kind: Kind, f: usize, x: Scanned, rest: &[u8]) -> Sought
+// The search for a rest behind the head number f. `bits` are those of the head.
+fn find_behind(memory: &Memory<'_, '_>, kind: Kind, f: usize, bits: u8, rest: &[u8]) -> Sought
     requires { (f < memory.now.lists.layout.sizes.e) × (length rest.now ≤ limit memory.now.lists.layout.sizes) }
-    ensures found { EndsKey memory.now.lists.layout.sizes memory.now.pages.now memory.now.lists.bytes.now (kind_number kind) (fid f ++ rest.now) result.found }
-    ensures placed { (result.lead ≡ fid f) × (result.h ≡ fnv_of (fid f ++ rest.now)) }
-    ensures ascii { result.ascii ≡ true → bits_from x.bits rest.now < 128 }
+    ensures found { EndsKey memory.now.lists.layout.sizes memory.now.pages.now memory.now.lists.bytes.now (kind_number kind) (fid f ++ rest.now) (fid f) result.found }
+    ensures ascii { result.ascii ≡ true → bits_from bits rest.now < 128 }
 {
     let lead = ranked_pair_dictionary::lead_of(f);
-    let y = fnv::scan(fnv::fnv(lead.as_slice()), x.bits, rest);
-    let key = Key {
-        d: Row::of(kind).main,
-        h: y.h,
-        parts: Parts {
-            front: Part::raw(lead.as_slice()),
-            rest: Part::raw(rest),
-        },
-    };
-    let found = find_key(memory, kind, &key);
+    let x = fnv::scan(fnv::fnv(lead.as_slice()), bits, rest);
+    let key = Key::behind(Row::of(kind).main, x.h, Part::raw(lead.as_slice()), rest);
     Sought {
-        found,
-        ascii: y.bits < 0x80,
-        lead,
-        h: y.h,
-        head_hash: x.h,
+        found: find_key(memory, kind, &key, lead),
+        ascii: x.bits < 0x80,
     }
 }
 
 // The search for a head and a rest.
 fn find_pair(memory: &Memory<'_, '_>, kind: Kind, head: &[u8], rest: &[u8]) -> Sought
     requires { ((row (kind_number kind)).paired ≡ true) × (length rest.now ≤ limit memory.now.lists.layout.sizes) }
-    ensures ended { Ended memory.now.lists.layout.sizes memory.now.pages.now memory.now.lists.bytes.now (kind_number kind) head.now rest.now result }
+    ensures ended { EndedBy memory.now.lists.layout.sizes memory.now.pages.now memory.now.lists.bytes.now (kind_number kind) head.now rest.now result.found }
     ensures ascii { result.ascii ≡ true → bits_from (bits_from 0 head.now) rest.now < 128 }
 {
-    let x = fnv::scan(fnv::START, 0, head);
-    match find_head(memory, kind, x.h, head) {
-        Ok(Probe::At(f)) => find_behind(memory, kind, f, x, rest),
-        Ok(Probe::Free(place)) => headless(Ok(Search::Missing(Place::Head(place))), x.h),
-        Err(why) => headless(Err(why), x.h),
+    let Scanned { h, bits } = fnv::scan(fnv::START, 0, head);
+    match find_head(memory, kind, h, head) {
+        Ok(Probe::At(f)) => find_behind(memory, kind, f, bits, rest),
+        Ok(Probe::Free(place)) => Sought {
+            found: Ok(Search::Missing(Place::Head(HeadPlace { place, h }))),
+            ascii: false,
+        },
+        Err(why) => Sought {
+            found: Err(why),
+            ascii: false,
+        },
     }
 }
 
 // The search for a string, whose kind has no heads: a plain string, or a text with its tag.
 fn find_str(memory: &Memory<'_, '_>, name: &Name<'_>) -> Sought
     requires { (shape_refusal memory.now.lists.layout.sizes (given name.now) ≡ none) × ((row (kind_number name.now.kind)).paired ≡ false) }
-    ensures ended { Ended memory.now.lists.layout.sizes memory.now.pages.now memory.now.lists.bytes.now (kind_number name.now.kind) [] ((row (kind_number name.now.kind)).rest (given name.now)) result }
+    ensures ended { EndedBy memory.now.lists.layout.sizes memory.now.pages.now memory.now.lists.bytes.now (kind_number name.now.kind) [] ((row (kind_number name.now.kind)).rest (given name.now)) result.found }
     ensures ascii { result.ascii ≡ true → (is_text name.now.first.now ≡ true) × (is_text name.now.second.now ≡ true) }
 {
     let text = name.first;
-    let tag = name.second;
-    let row = Row::of(name.kind);
-    let mode = row.front_mode();
-    let front = Part { mode, bytes: tag };
+    let front = name.front();
     let x = fnv::scan(front.hash_on(fnv::START), 0, text);
-    let key = Key {
-        d: row.main,
-        h: x.h,
-        parts: Parts {
-            front,
-            rest: Part::raw(text),
-        },
-    };
+    let key = Key::behind(Row::of(name.kind).main, x.h, front, text);
     Sought {
-        found: find_key(memory, name.kind, &key),
+        found: find_key(memory, name.kind, &key, Lead::empty()),
         // Most labels have a letter that is not ASCII, so a test of the tag would not pay.
-        ascii: tag.len() == 0 && x.bits < 0x80,
-        lead: Lead::empty(),
-        h: x.h,
-        head_hash: fnv::START,
+        ascii: name.second.len() == 0 && x.bits < 0x80,
     }
 }
 
-// The search for a name of legal shape. The answer is right if the text is legal too.
-pub fn find_name(memory: &Memory<'_, '_>, name: &Name<'_>) -> Sought
+// What is found of a name of legal shape. It is right if the text is legal too.
+fn seek(memory: &Memory<'_, '_>, name: &Name<'_>) -> Sought
     requires { shape_refusal memory.now.lists.layout.sizes (given name.now) ≡ none }
-    ensures ended { SearchEnded memory.now.lists.layout.sizes memory.now.pages.now memory.now.lists.bytes.now (given name.now) result }
+    ensures ended { SearchEnded memory.now.lists.layout.sizes memory.now.pages.now memory.now.lists.bytes.now (given name.now) result.found }
     ensures ascii { result.ascii ≡ true → (is_text name.now.first.now ≡ true) × (is_text name.now.second.now ≡ true) }
 {
     if !Row::of(name.kind).has_heads() {
@@ -179,4 +161,15 @@ pub fn find_name(memory: &Memory<'_, '_>, name: &Name<'_>) -> Sought
     let n = name.head_length();
     let rest = name.rest_behind(n);
     find_pair(memory, name.kind, &name.first[..n], rest)
+}
+
+// The search for a name of legal shape, and the check of its text.
+pub fn find_name(memory: &Memory<'_, '_>, name: &Name<'_>) -> Result<Search, Refusal>
+    requires { shape_refusal memory.now.lists.layout.sizes (given name.now) ≡ none }
+    ensures { NameSought memory.now.lists.layout.sizes memory.now.pages.now memory.now.lists.bytes.now (given name.now) result }
+{
+    // The text is checked after the search, which does not wait for it.
+    let x = seek(memory, name);
+    name.check_text(x.ascii)?;
+    x.found
 }

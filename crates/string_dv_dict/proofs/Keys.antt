@@ -1,18 +1,17 @@
 -- A packed form is the stored tag, followed by the text. Assumes nothing.
-use Prim.Native.Nat.{◌+◌, ◌≤◌}
+use Prim.Native.Nat.{ℕ, ◌+◌, ◌-◌, ◌≤◌}
 use mathlib.Core.Path.{◌≡◌, sym, ap}
 use mathlib.Core.Logic.{inl, inr}
 use mathlib.Core.List.{[], ◌∷◌, ◌++◌, append_assoc}
 use lib.Dec.{leb}
-use lib.ListN.{length, drop, length-append}
-use lib.Seq.{sets}
+use lib.ListN.{length, take, drop, length-append}
 use Rattle.slices.specs.Bytes.{Bytes}
 use Rattle.slices.proofs.Tests.{Split, split}
 use Rattle.parts.specs.declared.Mode.TheVariants.{Tag}
 use Rattle.encoding.specs.Encoding.{escaped, tag_bytes}
 use Rattle.parts.specs.Parts.{bytes_of}
 use Rattle.string_dv_dict.specs.Packed.{packed}
-use Rattle.string_dv_dict.proofs.Writes.{two-parts}
+use Rattle.string_dv_dict.proofs.Writes.{two-written}
 
 pub packed-key : (text tag : Bytes) → packed text tag ≡ bytes_of Tag tag ++ text
 unfolding packed tag_bytes bytes_of
@@ -26,8 +25,10 @@ pub length-tagged-key : (text tag : Bytes) → length (tag_bytes tag) + length t
 unfolding bytes_of
 length-tagged-key text tag = rw (packed-key text tag) (sym (length-append (tag_bytes tag) text))
 
--- Both stored from a buffer's start, one behind the other.
-pub placed-key : (text tag b : Bytes) → length (tag_bytes tag) + length text ≤ length b
-    → sets (sets b 0 (tag_bytes tag)) (length (tag_bytes tag)) text ≡ packed text tag ++ drop (length (packed text tag)) b
+-- Both written from a buffer's start, one behind the other.
+pub placed-key : (text tag b d s : Bytes) (at : ℕ) → length (tag_bytes tag) + length text ≤ length b → at ≡ length (tag_bytes tag)
+    → d ≡ tag_bytes tag ++ drop (length (tag_bytes tag)) b
+    → s ≡ text ++ drop (length text) (take (length d - at) (drop at d))
+    → take at d ++ (s ++ drop (length d - at) (drop at d)) ≡ packed text tag ++ drop (length (packed text tag)) b
 unfolding bytes_of
-placed-key text tag b h = rw (packed-key text tag) (two-parts (tag_bytes tag) text b h)
+placed-key text tag b d s at h a e f = rw (packed-key text tag) (two-written (tag_bytes tag) text b d s at h a e f)

@@ -1,18 +1,17 @@
 // Tagged strings packed into one byte string (Nemo's string_dv_dict.rs). string_dv_dict_unpack has the way back.
 #![tactic(auto)]
 
-ghost use Rattle.std.specs.Prelude.{◌≡◌, ◌+◌, ◌≤◌, length};
-ghost use Rattle.std.proofs.lemmas.List.Edits.{sets};
+ghost use Rattle.std.specs.Prelude.{◌≡◌, length};
 ghost use Rattle.string_dv_dict.specs.Packed.{pair_refusal};
 ghost use Rattle.string_dv_dict.specs.Answers.{pack_answer, pack_buffer};
 ghost use Rattle.refusals.specs.Checked.{checked_by};
-ghost use Rattle.parts.specs.Parts.{part_bytes};
 
 use layout::Sizes;
 use parts::Part;
 use refusals::Refusal;
 
 // Checks a text and a tag for refusals 5, 6 and 7, in this order.
+// Kept: apart from the check of a name, which asks sizes for the limit and a table for the kind. A form that is packed has neither.
 #[tactic(auto, unfolding(crate::specs::Packed::pair_refusal, layout::specs::Sizes::name_limit))]
 pub fn check_pair(text: &[u8], tag: &[u8]) -> Result<(), Refusal>
     ensures { result ≡ checked_by (pair_refusal text.now tag.now) }
@@ -32,14 +31,6 @@ pub fn check_pair(text: &[u8], tag: &[u8]) -> Result<(), Refusal>
     Ok(())
 }
 
-// Writes the stored bytes of a part at `at`.
-pub fn write_stored(part: Part<'_>, dst: &mut [u8], at: usize)
-    requires { at + length (part_bytes part) ≤ length dst.old }
-    ensures { dst.new ≡ sets dst.old at (part_bytes part.entry) }
-{
-    part.write(&mut dst[at..]);
-}
-
 // Packs a text and its tag at the buffer's start.
 pub fn two_strings_to_one(text: &[u8], tag: &[u8], buffer: &mut [u8]) -> Result<usize, Refusal>
     ensures { (result ≡ pack_answer text.now tag.now (length buffer.old)) × (buffer.new ≡ pack_buffer text.now tag.now buffer.old) }
@@ -51,7 +42,7 @@ pub fn two_strings_to_one(text: &[u8], tag: &[u8], buffer: &mut [u8]) -> Result<
     if buffer.len() < n {
         return Err(Refusal::ShortBuffer);
     }
-    write_stored(front, buffer, 0);
-    write_stored(Part::raw(text), buffer, m);
+    front.write(buffer);
+    Part::raw(text).write(&mut buffer[m..]);
     Ok(n)
 }

@@ -3,3 +3,4 @@ pub mod Escapes
 pub mod Text
 pub mod Laws
 pub mod PackedParts
+pub mod Splits

@@ -2,18 +2,21 @@
 use Prim.Native.Nat.{ℕ, suc, ◌+◌, ◌-◌, ◌<◌, ◌≤◌}
 use mathlib.Core.Path.{◌≡◌, refl, sym, ap, subst, ◌∙◌}
 use mathlib.Core.Logic.{◌≢◌, inl, inr}
-use mathlib.Core.Bool.{true, false}
+use mathlib.Core.Bool.{Bool, true, false, ◌&&◌}
 use mathlib.Core.List.{[], ◌∷◌}
-use mathlib.Core.Option.{none}
+use mathlib.Core.Option.{none, some}
+use mathlib.Core.Option as O
 use native.Mathlib.Nat.{zero-add}
 use native.Mathlib.Omega.{arith}
 use lib.Dec.{eqb, leb, ltb}
 use lib.ListN.{length, take, drop, length-drop}
 use lib.Seq.{take_all, drop-drop, length-take-le}
-use borrow.Author.Tests.{eqb-true, eqb-false, leb-true, leb-false, ltb-true, ltb-false}
+use borrow.Author.Tests.{eqb-true, eqb-false, leb-true, leb-false, le-leb, ltb-true, ltb-false, lt-ltb}
 use Rattle.std.specs.Prelude.{Option, Some, None}
 use Rattle.slices.specs.Bytes.{Bytes}
-use Rattle.slices.proofs.Tests.{Split, split, clash}
+use Rattle.refusals.specs.declared.Refusal.{Refusal}
+use Rattle.slices.proofs.Tests.{Split, split, clash, and_left, and_right, same_test}
+use Rattle.layout.specs.Sizes.{name_limit}
 use Rattle.utf8.specs.Text.{is_text}
 use Rattle.encoding.specs.Encoding.{escaped}
 use Rattle.encoding.proofs.Laws.{length-escaped}
@@ -21,12 +24,11 @@ use Rattle.string_dv_dict_split.specs.declared.Scan.{Scan}
 use Rattle.string_dv_dict_split.specs.declared.Scan.TheVariants.{Whole, Escape}
 use Rattle.string_dv_dict_split.specs.declared.Form.{Form}
 use Rattle.string_dv_dict_split.specs.declared.Form.TheVariants as F
-use Rattle.string_dv_dict.specs.Packed.{pair_refusal}
-use Rattle.string_dv_dict_split.specs.Forms.{before, unescaped, tag_in, text_in, accepted}
+use Rattle.string_dv_dict.specs.Packed.{pair_refusal, LegalTagged}
+use Rattle.string_dv_dict_split.specs.Forms.{before, unescaped, tag_in, text_in, is_legal, accepted}
 use Rattle.string_dv_dict_split.specs.Scans.{scan_from, long_by, long_split, split_of, form_of, ShortForm, LongForm, Splits}
 use Rattle.string_dv_dict_split.proofs.Escapes.{read-escaped, scan-escaped, scan_good, take-before, before_split}
-use Rattle.string_dv_dict_split.proofs.Text.{text-escaped}
-use Rattle.string_dv_dict.proofs.Laws.{legal-tagged}
+use Rattle.string_dv_dict.proofs.Laws.{legal-tagged, has-bytes, is-legal}
 use Rattle.string_dv_dict_split.proofs.Laws.{unpack-pack, short-form, accepted-short, short-accepted, Long, accepted-long, long-accepted}
 
 -- A part that runs to the end, and one that starts behind the first byte.
@@ -61,6 +63,10 @@ abbrev Is : Bytes → Option Form → Type 0
 Is form (Some (F.Short n)) = IsShort form n
 Is form (Some (F.Long end n)) = IsLong form end n
 Is form None = accepted form ≡ false
+
+none-legal : (o : O.Option Refusal) → is_legal o ≡ true → o ≡ none
+none-legal none e = refl
+none-legal (some why) e = clash e refl
 
 empty-cut : accepted [] ≡ false
 unfolding tag_in
@@ -136,21 +142,27 @@ module _ {form : Bytes} {n : ℕ} (h : ShortForm form n) where
   pub short-length : n ≡ length (tag_in form)
   short-length = rw h.tag (sym (length-take-le n (drop 1 form) (simp length-drop (omega (arith, h.within)))))
 
-  pub short-pair : pair_refusal (take (length form - (n + 1)) (drop (n + 1) form)) (take (n + 1 - 1) (drop 1 form)) ≡ pair_refusal (text_in form) (tag_in form)
-  short-pair = rw (short-text, short-tag)
+  pub short-stands : split_of form ≡ Some (F.Short (length (take (n + 1 - 1) (drop 1 form))))
+  short-stands = h.split ∙ ap (λ (k : ℕ). Some (F.Short k)) (short-length ∙ ap length (sym short-tag))
 
-  pub short-low : accepted form ≡ true → n ≤ 127
+  short-low : accepted form ≡ true → n ≤ 127
   short-low p =
       let i = split-is form (Some (F.Short n)) h.split in
       (accepted-short n (drop 1 form) i.filled (ap accepted i.whole ∙ p)).low
 
-  pub short-taken : n ≤ 127 → pair_refusal (text_in form) (tag_in form) ≡ none → accepted form ≡ true
+  short-taken : n ≤ 127 → pair_refusal (text_in form) (tag_in form) ≡ none → accepted form ≡ true
   short-taken l q =
       let i = split-is form (Some (F.Short n)) h.split in
       let p = short-form n (drop 1 form) i.filled in
       ap accepted (sym i.whole)
       ∙ short-accepted n (drop 1 form) i.filled
       (record { low = l; within = i.within; pair = rw (← p.0, ← p.1, i.whole) q })
+
+  pub short-cut : 127 < n → accepted form ≡ false
+  short-cut l = not-accepted form (λ p. omega (arith, short-low p))
+
+  pub short-legal : n ≤ 127 → is_legal (pair_refusal (text_in form) (tag_in form)) ≡ accepted form
+  short-legal l = same_test _ _ (λ p. short-taken l (none-legal _ p)) (λ p. ap is_legal (unpack-pack form p).0)
 
 -- The same of long ones.
 module _ {form : Bytes} {end n : ℕ} (h : LongForm form end n) where
@@ -163,6 +175,13 @@ module _ {form : Bytes} {end n : ℕ} (h : LongForm form end n) where
   pub long-tag : unescaped false (take (end + 1 - 1) (drop 1 form)) ≡ tag_in form
   long-tag = rw long-escaped (read-escaped (tag_in form))
 
+  pub long-stands : (split_of form ≡ Some (F.Long (length (take (end + 1 - 1) (drop 1 form))) (length (tag_in form))))
+      × (take (end + 1 - 1) (drop 1 form) ≡ escaped (tag_in form))
+  long-stands =
+      let l : length (take (end + 1 - 1) (drop 1 form)) ≡ end =
+      ap length (behind-first form end) ∙ length-take-le end (drop 1 form) (simp length-drop (omega (arith, h.within))) in
+      (rw (l, h.tag_length) h.split, long-escaped)
+
   pub long-low : n ≤ end
   long-low = omega (
     arith,
@@ -172,15 +191,12 @@ module _ {form : Bytes} {end n : ℕ} (h : LongForm form end n) where
     h.tag_length,
   )
 
-  pub long-is-text : is_text (take (end + 1 - 1) (drop 1 form)) ≡ is_text (tag_in form)
-  long-is-text = ap is_text long-escaped ∙ text-escaped (tag_in form)
-
-  pub long-high : accepted form ≡ true → 127 < n
+  long-high : accepted form ≡ true → 127 < n
   long-high p =
       let i = split-is form (Some (F.Long end n)) h.split in
       omega (arith, (accepted-long (drop 1 form) (ap accepted i.whole ∙ p)).high, i.size)
 
-  pub long-taken : 127 < n → pair_refusal (text_in form) (tag_in form) ≡ none → accepted form ≡ true
+  long-taken : 127 < n → pair_refusal (text_in form) (tag_in form) ≡ none → accepted form ≡ true
   unfolding text_in tag_in
   long-taken l q =
       let i = split-is form (Some (F.Long end n)) h.split in
@@ -193,11 +209,34 @@ module _ {form : Bytes} {end n : ℕ} (h : LongForm form end n) where
         pair = ap (λ (x : Bytes). pair_refusal (text_in x) (tag_in x)) i.whole ∙ q;
       })
 
--- ---- the forms that packing makes
+  legal-pair : accepted form ≡ true → LegalTagged (text_in form) (tag_in form)
+  legal-pair p = legal-tagged (text_in form) (tag_in form) (unpack-pack form p).0
 
-abbrev pub PackedParts : Bytes → Option Form → Type 0
-PackedParts form (Some parts) = (accepted form ≡ true) × Splits form (Some parts)
-PackedParts form None = accepted form ≡ false
+  -- Its tests, one after the other: a long tag, a pair that is not too long, and two texts.
+  pub long-tests : {a b : Bool} → a ≡ (ltb 127 n && leb (length (text_in form) + n) name_limit) → b ≡ (a && is_text (text_in form))
+      → (b ≡ true → is_text (tag_in form) ≡ accepted form) × (b ≡ false → b ≡ accepted form)
+  long-tests {a} {b} p q = (λ t. same_test _ _ (taken t) (λ e. (legal-pair e).tag_is), λ t. t ∙ sym (not-accepted form (λ e. clash (all e) t)))
+    where
+      taken : b ≡ true → is_text (tag_in form) ≡ true → accepted form ≡ true
+      taken t e =
+          let u = sym q ∙ t in
+          let v = sym p ∙ and_left a _ u in
+          let l = ltb-true _ _ (and_left (ltb 127 n) _ v) in
+          long-taken l
+          (is-legal (text_in form) (tag_in form)
+          (record {
+            size = omega (arith, leb-true _ _ (and_right (ltb 127 n) _ v), h.tag_length);
+            text-is = and_right a _ u;
+            tag_is = e;
+            tagged = has-bytes (tag_in form) (omega (arith, h.tag_length));
+          }))
+
+      all : accepted form ≡ true → b ≡ true
+      all e =
+          let g = legal-pair e in
+          rw (q, p, lt-ltb 127 n (long-high e), le-leb (length (text_in form) + n) name_limit (omega (arith, g.size, h.tag_length)), g.text-is)
+
+-- ---- the forms that packing makes
 
 module _ (form : Bytes) where
   pub taken-form : accepted form ≡ true → split_of form ≡ form_of form
@@ -208,13 +247,12 @@ module _ (form : Bytes) where
   unfolding form_of
   cut-form never = rw (not-accepted form never)
 
-  taken-parts : accepted form ≡ true → (r : Option Form) → split_of form ≡ r → PackedParts form r
-  taken-parts p (Some parts) e = (p, split_parts form (Some parts) e)
-  taken-parts p None e = split_parts form None e
-
-  pub form-parts : (r : Option Form) → form_of form ≡ r → PackedParts form r
-  form-parts r e = go (split (accepted form))
+  pub form-made : (parts : Form) → form_of form ≡ Some parts → accepted form ≡ true
+  form-made parts e = go (split (accepted form))
     where
-      go : Split (accepted form) → PackedParts form r
-      go (inl p) = taken-parts p r (taken-form p ∙ e)
-      go (inr p) = subst (λ (x : Option Form). PackedParts form x) (cut-form (λ q. clash q p) ∙ e) p
+      go : Split (accepted form) → accepted form ≡ true
+      go (inl p) = p
+      go (inr p) = cc (cut-form (λ q. clash q p))
+
+  pub form-cut : form_of form ≡ None → accepted form ≡ false
+  form-cut e = not-accepted form (λ p. clash p (split_parts form None (taken-form p ∙ e)))

@@ -1,3 +1,4 @@
 -- The definitions of this crate, by subject.
 pub mod Forms
 pub mod Scans
+pub mod Pieces

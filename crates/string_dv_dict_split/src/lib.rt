@@ -1,10 +1,15 @@
 // Where the text and the tag lie in a packed tagged string, and whether packing makes such a form (from the second half of Nemo's string_dv_dict.rs).
 #![tactic(auto)]
 
-ghost use Rattle.std.specs.Prelude.{◌≡◌, ◌+◌, ◌^◌, ◌<◌, Some};
-ghost use Rattle.string_dv_dict_split.specs.Scans.{end_in, scan_step, scan_from, scanned, long_split, split_of, form_of, ShortForm, LongForm};
+ghost use Rattle.std.specs.Prelude.{◌≡◌, ◌+◌, ◌^◌, ◌<◌, Some, IfSome};
+ghost use Rattle.string_dv_dict_split.specs.Forms.{accepted};
+ghost use Rattle.string_dv_dict_split.specs.Scans.{end_in, scan_step, scan_from, scanned, long_split, split_of, form_of};
+ghost use Rattle.string_dv_dict_split.specs.Pieces.{formed};
+
+pub mod forms;
 
 use encoding::SHORT;
+pub use forms::{Piece, Split};
 use layout::Sizes;
 
 // The bytes of an escaped tag so far: how many bytes of the tag they stand for. Escape: a '\' still needs its second byte.
@@ -66,58 +71,48 @@ fn split_long(s: &[u8]) -> Option<Form>
 
 // Where the parts of a form would lie, by its shape alone. It does not check that they are text, or that packing would choose this form.
 #[tactic(auto, unfolding(crate::specs::Scans::split_of))]
-pub fn split(form: &[u8]) -> Option<Form>
-    ensures { result ≡ split_of form.now }
+pub fn split(bytes: &[u8]) -> Option<Split<'_>>
+    ensures form { formed result ≡ split_of bytes.now }
+    ensures bytes { IfSome result (λ x. x.bytes.now ≡ bytes.now) }
 {
-    let (first, rest) = form.split_first()?;
-    let tag = *first as usize;
+    let (first, rest) = bytes.split_first()?;
+    let tag = usize::from(*first);
     if tag == 0 {
-        return split_long(rest);
+        let form = split_long(rest)?;
+        return Some(Split { form, bytes });
     }
     if rest.len() < tag {
         return None;
     }
-    Some(Form::Short { tag })
+    Some(Split {
+        form: Form::Short { tag },
+        bytes,
+    })
 }
 
-fn check_short(form: &[u8], tag: usize) -> Option<Form>
-    requires { ShortForm form.now tag }
-    ensures { result ≡ form_of form.now }
+// Whether packing makes the form: its parts are a legal pair, and stored as packing stores them.
+fn is_packed(x: &Split<'_>) -> bool
+    ensures { result ≡ accepted x.now.bytes.now }
 {
-    if SHORT < tag {
-        return None;
+    let text = x.text();
+    let n = x.tag_length();
+    match x.tag() {
+        Piece::Raw(tag) => n <= SHORT && string_dv_dict::check_pair(text, tag).is_ok(),
+        // Escaping changes no character into another, so the tag is text exactly if its escaped form is.
+        Piece::Escaped(escaped) => {
+            SHORT < n
+                && text.len() + n <= Sizes::NAME_LIMIT
+                && utf8::is_text(text)
+                && utf8::is_text(escaped)
+        }
     }
-    string_dv_dict::check_pair(&form[tag + 1..], &form[1..tag + 1]).ok()?;
-    Some(Form::Short { tag })
-}
-
-fn check_long(form: &[u8], end: usize, tag: usize) -> Option<Form>
-    requires { LongForm form.now end tag }
-    ensures { result ≡ form_of form.now }
-{
-    if tag <= SHORT {
-        return None;
-    }
-    let text = &form[end + 2..];
-    if Sizes::NAME_LIMIT < text.len() + tag {
-        return None;
-    }
-    if !utf8::is_text(text) {
-        return None;
-    }
-    // Escaping changes no character into another, so the tag is text exactly if its escaped form is.
-    if !utf8::is_text(&form[1..end + 1]) {
-        return None;
-    }
-    Some(Form::Long { end, tag })
 }
 
 // Where the parts of a packed form lie, if packing makes such a form.
-pub fn split_packed(form: &[u8]) -> Option<Form>
-    ensures { result ≡ form_of form.now }
+pub fn split_packed(bytes: &[u8]) -> Option<Split<'_>>
+    ensures form { formed result ≡ form_of bytes.now }
+    ensures bytes { IfSome result (λ x. x.bytes.now ≡ bytes.now) }
 {
-    match split(form)? {
-        Form::Short { tag } => check_short(form, tag),
-        Form::Long { end, tag } => check_long(form, end, tag),
-    }
+    let x = split(bytes)?;
+    if is_packed(&x) { Some(x) } else { None }
 }

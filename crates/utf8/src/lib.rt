@@ -76,7 +76,7 @@ fn is_char(bytes: &[u8], lo: u8, hi: u8) -> bool
 }
 
 // Passes characters of N bytes from i on, as long as their first byte is from `lo` to `hi`, which allows all tail bytes.
-// Kept: apart from `pass_words`, which also looks at the last eight bytes again. `lo` and `hi` as a range are no plainer.
+// Kept: apart from `pass_words`, which also looks at the last eight bytes again. `lo` and `hi` are two numbers, for the clause `tails` speaks of both.
 fn pass_chars<const N: usize>(s: &[u8], i: usize, lo: u8, hi: u8) -> usize
     requires within { i ≤ length s.now }
     requires size { (0 < N) × (N < 2 ^ 63) }

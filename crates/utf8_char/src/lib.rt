@@ -53,6 +53,7 @@ impl Due {
 }
 
 // Where the character that begins at i ends. None: the bytes are no character.
+// Kept: an index beside the slice. `utf8` counts by an index, for the reason given there, and would cut a slice for each character.
 pub fn char_end(s: &[u8], i: usize) -> Option<usize>
     requires { i < length s.now }
     ensures { Ends s.now i result }

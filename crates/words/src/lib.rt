@@ -15,7 +15,8 @@ pub const QUAD: usize = 4;
 pub const TOP_BITS: usize = 0x8080808080808080;
 
 // The number whose N bytes begin at b.
-// Kept: the width is bounded here and in the two functions below. A const parameter has no type that could say it.
+// Kept: the width is bounded here and in the two functions below. A const parameter has no type that could say it. So is the index, here and where an index is
+// handed on: no type of an index knows the slice that it is used on.
 pub fn number_from<const N: usize>(s: &[u8], b: usize) -> usize
     requires width { N ≤ 8 }
     requires within { b + N ≤ length s.now }

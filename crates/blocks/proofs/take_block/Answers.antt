@@ -25,4 +25,4 @@ returns c =
     let a = c.args in
     rw (← c.from-k.ensures.0)
     (written_is a.layout.now.sizes a.lists.now c.from-k.result a.local.0 a.g c.block_size.result
-    c.block_size.ensures.0 c.blocks_at.ensures c.blocks_at-2.ensures c.put_number.ensures c.put_number-2.ensures)
+    c.block_size.ensures.0 c.blocks_at.ensures c.blocks_at-2.ensures c.put_number.ensures (rw c.word.ensures at c.put_number-2.ensures))

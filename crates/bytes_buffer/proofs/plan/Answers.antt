@@ -47,8 +47,9 @@ pub returns-then-used-len-clause-spot : goal.returns-then-used-len-clause-spot
 returns-then-used-len-clause-spot c =
     let a = c.args in
     let s = a.lists.now.layout.sizes in
-    sym (spot-current s c.number_at-current.result c.number_at.result a.untaken a.len c.if-current-eq0.false c.if-n-current.false (omega arith))
-    ∙ read s (word_at a.lists.now.bytes.now) _ _ _ _ _ _ c.from.ensures.0 c.number_at-current.ensures c.number_at.ensures
+    rw c.from-used.ensures.1
+    (sym (spot-current s c.number_at-current.result c.number_at.result a.untaken a.len c.if-current-eq0.false c.if-n-current.false (omega arith))
+    ∙ read s (word_at a.lists.now.bytes.now) _ _ _ _ _ _ c.from.ensures.0 c.number_at-current.ensures c.number_at.ensures)
 
 pub returns-clause-spot : goal.returns-clause-spot
 returns-clause-spot c =

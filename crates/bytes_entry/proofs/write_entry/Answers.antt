@@ -19,5 +19,5 @@ pub returns : goal.returns
 returns c =
     let a = c.args in
     stores a.layout.now.sizes a.lists.now _ _ _ _ (dictionary_number a.d) _ a.x.n a.lies.page a.lies.offset a.lies.len a.x.stamp a.x.place a.h _ _ _
-    c.from-d.ensures.0 c.dict_at-base.ensures c.entry_word.ensures c.place_word.ensures
+    c.from-d.ensures.0 c.dict_at-base.ensures c.word.ensures c.place_word.ensures
     c.put_number.ensures c.put_number-2.ensures c.put_number-3.ensures c.put_number-4.ensures

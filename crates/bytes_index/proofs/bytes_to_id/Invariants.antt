@@ -1,5 +1,5 @@
 -- The probe loop's invariant: the places passed are filled, and none names an entry that is the key. The inner loop's: the bytes passed are equal.
-use Rattle.std.proofs.Common.{ℕ, ◌-◌, ◌≤◌, ◌<◌, ◌≡◌, get_or}
+use Rattle.std.proofs.Common.{ℕ, ◌-◌, ◌≤◌, ◌<◌, ◌≡◌, length, get_or}
 use Rattle.words.specs.Words.{word_at, quad_at}
 use Rattle.fnv.specs.Fnv.{fnv_of}
 use Rattle.parts.specs.Parts.{part_bytes}
@@ -13,8 +13,8 @@ use Rattle.bytes_index.proofs.bytes_to_id.Given as goal
 
 abbrev pub invariant-loop-left : goal.invariant-loop-left
 invariant-loop-left l = record {
-  within : l.left ≤ l.n;
-  equal : Agree l.pages l.end (part_bytes l.fn.key.parts.rest) l.left l.n;
+  within : l.left ≤ l.rest.len;
+  equal : Agree l.stored (length l.stored) (part_bytes l.rest.part) l.left l.rest.len;
 }
 
 abbrev pub decreases-loop-left : goal.decreases-loop-left
@@ -25,7 +25,7 @@ invariant-probe l = record {
   steps : l.t ≤ l.m;
   place : l.j < l.m;
   here : place_after l.m (fnv_of (bytes_in l.fn.key)) l.t ≡ l.j;
-  passed : (k : ℕ) → k < l.t → PlacePassed l.lists.layout.sizes (λ a. get_or l.pages a 0) (λ i. word_at l.lists.bytes.now (entry_at l.lists.layout.sizes (dictionary_number l.d) i)) (bytes_in l.fn.key)
+  passed : (k : ℕ) → k < l.t → PlacePassed l.lists.layout.sizes (λ a. get_or l.fn.memory.pages.now a 0) (λ i. word_at l.lists.bytes.now (entry_at l.lists.layout.sizes (dictionary_number l.d) i)) (bytes_in l.fn.key)
       (quad_at l.lists.bytes.now (place_at l.lists.layout.sizes (dictionary_number l.d) (place_after l.m (fnv_of (bytes_in l.fn.key)) k)));
 }
 

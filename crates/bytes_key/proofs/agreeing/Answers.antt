@@ -6,7 +6,6 @@ use Rattle.words.proofs.Laws.{le-agree, le_same}
 use Rattle.bytes_key.specs.Keys.{Agree, Agreeing}
 use Rattle.bytes_key.proofs.Compared.{no_more, at-once-not, at_once}
 use Rattle.bytes_key.proofs.agreeing.Goals as goal
-use Rattle.bytes_key.proofs.agreeing.Goals.{then-left-lt8, else-left-lt8}
 
 -- The eight bytes that begin where `from` are left.
 module _ (pages : Bytes) (end : ℕ) (rest : Bytes) (from : ℕ) (eight : 8 ≤ from) (inside : from ≤ length rest) (fits : length rest ≤ end) where
@@ -30,32 +29,22 @@ module _ (pages : Bytes) (end : ℕ) (rest : Bytes) (from : ℕ) (eight : 8 ≤ 
   agreed : (left r : ℕ) → Agree pages end rest (from - 8) from → 0 < r → r ≤ left → from - 8 ≤ left - r → left ≤ from → Agreeing pages end rest left r
   agreed left r h p q a b = record { within = q; same = λ k l u. h k (omega arith) (omega arith); differ = λ e. absurd (omega arith) }
 
-pub returns-then-not-is_stored_as : goal.returns-then-not-is_stored_as
-returns-then-not-is_stored_as c =
-    at-once-not c.args.pages.now c.args.end c.args.rest.now (omega arith) (omega arith) c.args.left (rw c.raw.ensures.stored at (sym c.if-not-is_stored_as.ensures))
+pub returns-then-not-is_stored_as-clause-agreeing : goal.returns-then-not-is_stored_as-clause-agreeing
+returns-then-not-is_stored_as-clause-agreeing c =
+    at-once-not c.args.stored.now c.args.rest.now (omega arith) c.args.left (rw c.raw.ensures.stored at (sym c.if-not-is_stored_as.ensures))
 
-pub returns-then-n-lt8 : goal.returns-then-n-lt8
-returns-then-n-lt8 c =
-    at_once c.args.pages.now c.args.end c.args.rest.now (omega arith) (omega arith) c.args.left (omega arith) (omega arith) (rw c.raw.ensures.stored at (sym c.if-not-is_stored_as.ensures))
+pub returns-then-n-lt8-clause-agreeing : goal.returns-then-n-lt8-clause-agreeing
+returns-then-n-lt8-clause-agreeing c =
+    at_once c.args.stored.now c.args.rest.now (omega arith) c.args.left (omega arith) (omega arith) (rw c.raw.ensures.stored at (sym c.if-not-is_stored_as.ensures))
 
-pub returns-then-number_from : goal.returns-then-number_from
-returns-then-number_from c =
-    let from = c.if-left-lt8.from in
-    let a : 8 ≤ from = elim c.if-left-lt8.branch [ then-left-lt8 w ↦ omega arith | else-left-lt8 w ↦ omega arith ] in
-    let b : from ≤ length c.args.rest.now = elim c.if-left-lt8.branch [ then-left-lt8 w ↦ omega arith | else-left-lt8 w ↦ omega arith ] in
-    no_more c.args.pages.now c.args.end c.args.rest.now c.args.left
-    (λ h. c.if-number_from.true (c.number_from.ensures ∙ bytes_word c.args.pages.now c.args.end c.args.rest.now from a b (omega arith) h ∙ sym c.number_from-2.ensures))
+pub returns-then-number_from-clause-agreeing : goal.returns-then-number_from-clause-agreeing
+returns-then-number_from-clause-agreeing c =
+    let from = c.max-from.result in
+    no_more c.args.stored.now (length c.args.stored.now) c.args.rest.now c.args.left
+    (λ h. c.if-number_from.true (c.number_from.ensures ∙ bytes_word c.args.stored.now (length c.args.stored.now) c.args.rest.now from (omega arith) (omega arith) (omega arith) h ∙ sym c.number_from-2.ensures))
 
-pub returns-then-left-lt8-2 : goal.returns-then-left-lt8-2
-returns-then-left-lt8-2 c =
-    let from = c.if-left-lt8.from in
-    let e : from ≡ 8 = elim c.if-left-lt8.branch [ then-left-lt8 w ↦ omega arith | else-left-lt8 w ↦ omega arith ] in
-    let h = word_bytes c.args.pages.now c.args.end c.args.rest.now from (omega arith) (omega arith) (omega arith) (λ k. omega (arith, c.type_inv.pages k)) (λ k. omega (arith, c.type_inv.rest k)) (sym c.number_from.ensures ∙ c.if-number_from.false ∙ c.number_from-2.ensures) in
-    agreed c.args.pages.now c.args.end c.args.rest.now from (omega arith) (omega arith) (omega arith) c.args.left c.args.left h (omega arith) (omega arith) (omega arith) (omega arith)
-
-pub returns-else-left-lt8-2 : goal.returns-else-left-lt8-2
-returns-else-left-lt8-2 c =
-    let from = c.if-left-lt8.from in
-    let e : from ≡ c.args.left = elim c.if-left-lt8.branch [ then-left-lt8 w ↦ omega arith | else-left-lt8 w ↦ omega arith ] in
-    let h = word_bytes c.args.pages.now c.args.end c.args.rest.now from (omega arith) (omega arith) (omega arith) (λ k. omega (arith, c.type_inv.pages k)) (λ k. omega (arith, c.type_inv.rest k)) (sym c.number_from.ensures ∙ c.if-number_from.false ∙ c.number_from-2.ensures) in
-    agreed c.args.pages.now c.args.end c.args.rest.now from (omega arith) (omega arith) (omega arith) c.args.left 8 h (omega arith) (omega arith) (omega arith) (omega arith)
+pub returns-clause-agreeing : goal.returns-clause-agreeing
+returns-clause-agreeing c =
+    let from = c.max-from.result in
+    let h = word_bytes c.args.stored.now (length c.args.stored.now) c.args.rest.now from (omega arith) (omega arith) (omega arith) (λ k. omega (arith, c.type_inv.stored k)) (λ k. omega (arith, c.type_inv.rest k)) (sym c.number_from.ensures ∙ c.if-number_from.false ∙ c.number_from-2.ensures) in
+    agreed c.args.stored.now (length c.args.stored.now) c.args.rest.now from (omega arith) (omega arith) (omega arith) c.args.left c.min.result h (omega arith) (omega arith) (omega arith) (omega arith)

@@ -10,4 +10,4 @@ returns-clause-pages c = rw c.insert_head.ensures.pages at c.insert.ensures.page
 pub returns-clause-lists : goal.returns-clause-lists
 unfolding name_lists
 returns-clause-lists c =
-    c.take_block.ensures ∙ rw (c.insert.ensures.lists, c.requires.dictionary, c.insert_head.ensures.lists)
+    c.take_block.ensures ∙ rw (c.insert.ensures.lists, c.args.w.now.main, c.insert_head.ensures.lists)

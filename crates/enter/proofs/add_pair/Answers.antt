@@ -61,7 +61,7 @@ returns-in_err-f c =
     let lists = c.args.lists.now in
     let p = err_from_is_err_and c.from_residual.result c.from_residual.ensures.1 in
     rw (p.1, p.2)
-    (uncounted s c.args.pages.now lists a c.args.x c.args.head_place c.requires.place_ended _
+    (uncounted s c.args.pages.now lists a c.args.x.now.place c.requires.place_ended.ended _
     (counted-head s lists (kind_number a.kind) _ _ c.of-row.ensures.heads_at c.in_err-f.ensures))
 
 pub lead_of-lead-requires : goal.lead_of-lead-requires
@@ -72,18 +72,19 @@ lead_of-lead-requires c =
     let k = counted-by s (head_word lists (kind_number a.kind)) c.in_ok-f.f (counted-head s lists (kind_number a.kind) _ _ c.of-row.ensures.heads_at c.in_ok-f.ensures) in
     omega (arith, k.0, k.1, c.args.layout.now.in_range.e)
 
-pub invariant_of-key : goal.invariant_of-key
-invariant_of-key c =
+pub behind-key-requires-clause-hashed : goal.behind-key-requires-clause-hashed
+behind-key-requires-clause-hashed c =
+    rw c.raw.ensures.stored
+    (pair-hash c.in_ok-f.f _ _ c.as_slice-2.result.now c.rest_behind-rest.result.now (c.as_slice-2.ensures ∙ c.lead_of-lead.ensures)
+    (c.fnv.ensures ∙ ap fnv_of (c.as_slice.ensures ∙ c.lead_of-lead.ensures)) c.fnv_from-h.ensures)
+
+pub behind-key-requires-clause-fits : goal.behind-key-requires-clause-fits
+behind-key-requires-clause-fits c =
     let s = c.args.layout.now.sizes in
     let R = c.args.layout.now.in_range in
     let a = c.args.name.now in
-    let b = c.as_slice-2.ensures ∙ c.lead_of-lead.ensures in
     let l = rest-short (kind_number a.kind) a.first.now a.second.now _ c.head_length-n.result (limit s) c.rest_behind-rest.ensures (legal-shape _ _ c.requires.fit.1).size in
-    record {
-      hashed = rw (c.raw.ensures.stored, c.raw-2.ensures.stored)
-          (pair-hash c.in_ok-f.f _ _ c.as_slice-2.result.now c.rest_behind-rest.result.now b (c.fnv.ensures ∙ ap fnv_of (c.as_slice.ensures ∙ c.lead_of-lead.ensures)) c.fnv_from.ensures);
-      fits = rw (c.raw.ensures.stored, c.raw-2.ensures.stored) (paged-fits s _ R (key-paged s c.in_ok-f.f _ _ R b l));
-    }
+    rw c.raw.ensures.stored (paged-fits s _ R (key-paged s c.in_ok-f.f _ _ R (c.as_slice-2.ensures ∙ c.lead_of-lead.ensures) l))
 
 pub returns-in_err-place : goal.returns-in_err-place
 returns-in_err-place c =
@@ -91,17 +92,17 @@ returns-in_err-place c =
     let a = c.args.name.now in
     let pages = c.args.pages.now in
     let lists = c.args.lists.now in
-    let H = c.requires.place_ended in
+    let H = c.requires.place_ended.ended in
     let lead = c.as_slice-2.result.now in
     let rest = c.rest_behind-rest.result.now in
     let i = is-pair (kind_number a.kind) a.first.now a.second.now rest c.head_length-n.result (kind-below a.kind) H.paired c.head_length-n.ensures.0 c.rest_behind-rest.ensures _ refl in
     let p = err_from_is_err_and c.from_residual-in_err-place.result c.from_residual-in_err-place.ensures.1 in
     rw (p.1, p.2)
-    (unsearched s pages lists a c.args.x c.args.head_place H c.in_ok-f.f (counted-head s lists (kind_number a.kind) _ _ c.of-row.ensures.heads_at c.in_ok-f.ensures) _
-    (searched s pages lists (kind_number a.kind) c.in_ok-f.f a.first.now a.second.now lead rest _ _ _ c.of-row.ensures.main_at
+    (unsearched s pages lists a c.args.x.now.place H c.in_ok-f.f (counted-head s lists (kind_number a.kind) _ _ c.of-row.ensures.heads_at c.in_ok-f.ensures) _
+    (searched s pages lists (kind_number a.kind) c.in_ok-f.f a.first.now a.second.now lead rest _ _ _ (ap dictionary_number c.behind-key.ensures.0 ∙ c.of-row.ensures.main_at)
     (c.as_slice-2.ensures ∙ c.lead_of-lead.ensures)
     i
-    (rw (c.raw.ensures.stored, c.raw-2.ensures.stored) at c.in_err-place.ensures)))
+    (rw (c.behind-key.ensures.1, c.raw.ensures.stored) at c.in_err-place.ensures)))
 
 pub returns-in_default : goal.returns-in_default
 returns-in_default c =
@@ -109,29 +110,27 @@ returns-in_default c =
     let a = c.args.name.now in
     let pages = c.args.pages.now in
     let lists = c.args.lists.now in
-    let H = c.requires.place_ended in
+    let H = c.requires.place_ended.ended in
     let lead = c.as_slice-2.result.now in
     let rest = c.rest_behind-rest.result.now in
     let i = is-pair (kind_number a.kind) a.first.now a.second.now rest c.head_length-n.result (kind-below a.kind) H.paired c.head_length-n.ensures.0 c.rest_behind-rest.ensures _ refl in
-    occupied s pages lists a c.args.x c.args.head_place H c.in_ok-f.f (counted-head s lists (kind_number a.kind) _ _ c.of-row.ensures.heads_at c.in_ok-f.ensures) _
+    occupied s pages lists a c.args.x.now.place H c.in_ok-f.f (counted-head s lists (kind_number a.kind) _ _ c.of-row.ensures.heads_at c.in_ok-f.ensures) _
     c.in_default.not-Free
-    (searched s pages lists (kind_number a.kind) c.in_ok-f.f a.first.now a.second.now lead rest _ _ _ c.of-row.ensures.main_at
+    (searched s pages lists (kind_number a.kind) c.in_ok-f.f a.first.now a.second.now lead rest _ _ _ (ap dictionary_number c.behind-key.ensures.0 ∙ c.of-row.ensures.main_at)
     (c.as_slice-2.ensures ∙ c.lead_of-lead.ensures)
     i
-    (rw (c.raw.ensures.stored, c.raw-2.ensures.stored) at c.in_ok-place.ensures))
+    (rw (c.behind-key.ensures.1, c.raw.ensures.stored) at c.in_ok-place.ensures))
 
-pub enter_name-requires-clause-head_len_bound : goal.enter_name-requires-clause-head_len_bound
-enter_name-requires-clause-head_len_bound c =
+pub enter_name-requires-clause-paged : goal.enter_name-requires-clause-paged
+enter_name-requires-clause-paged c =
     let s = c.args.layout.now.sizes in
     let R = c.args.layout.now.in_range in
     let a = c.args.name.now in
-    let lead = c.as_slice-2.result.now in
-    let rest = c.rest_behind-rest.result.now in
     let n = c.head_length-n.result in
     let z = (legal-shape _ _ c.requires.fit.1).size in
     let l = rest-short (kind_number a.kind) a.first.now a.second.now _ n (limit s) c.rest_behind-rest.ensures z in (
       head-paged s a.first.now n R (omega (arith, z)),
-      rw (c.raw.ensures.stored, c.raw-2.ensures.stored) (key-paged s c.in_ok-f.f lead rest R (c.as_slice-2.ensures ∙ c.lead_of-lead.ensures) l),
+      rw (c.behind-key.ensures.1, c.raw.ensures.stored) (key-paged s c.in_ok-f.f _ _ R (c.as_slice-2.ensures ∙ c.lead_of-lead.ensures) l),
     )
 
 pub returns : goal.returns
@@ -140,16 +139,15 @@ returns c =
     let a = c.args.name.now in
     let pages = c.args.pages.now in
     let lists = c.args.lists.now in
-    let H = c.requires.place_ended in
+    let H = c.requires.place_ended.ended in
     let lead = c.as_slice-2.result.now in
     let rest = c.rest_behind-rest.result.now in
-    let q : Searched s (dictionary_number c.of-row.result.main) pages lists (c.as_slice-2.result.now ++ rest) (Ok (Free c.in-Free.place)) = rw (c.in-Free.is, c.raw.ensures.stored, c.raw-2.ensures.stored) at c.in_ok-place.ensures in
+    let b : lead ≡ fid c.in_ok-f.f = c.as_slice-2.ensures ∙ c.lead_of-lead.ensures in
+    let q : Searched s (dictionary_number c.behind-key.result.d) pages lists (lead ++ rest) (Ok (Free c.in-Free.place)) =
+    rw (c.in-Free.is, c.behind-key.ensures.1, c.raw.ensures.stored) at c.in_ok-place.ensures in
     let i = is-pair (kind_number a.kind) a.first.now a.second.now rest c.head_length-n.result (kind-below a.kind) H.paired c.head_length-n.ensures.0 c.rest_behind-rest.ensures _ refl in
-    adds-pair s pages lists a c.args.x c.args.head_place H c.in_ok-f.f (counted-head s lists (kind_number a.kind) _ _ c.of-row.ensures.heads_at c.in_ok-f.ensures)
-    c.args.layout.now.in_range c.requires.fit.0 _ _ _ _
-    i.headed
-    (key-is (kind_number a.kind) c.in_ok-f.f a.first.now a.second.now lead rest _ (c.as_slice-2.ensures ∙ c.lead_of-lead.ensures) i)
-    (searched s pages lists (kind_number a.kind) c.in_ok-f.f a.first.now a.second.now c.as_slice-2.result.now rest _ _ _ c.of-row.ensures.main_at
-    (c.as_slice-2.ensures ∙ c.lead_of-lead.ensures) i q)
-    _ _ _
-    (rw (c.raw.ensures.stored, c.raw-2.ensures.stored) at c.enter_name.ensures)
+    adds-pair s pages lists a c.args.x.now.place H c.in_ok-f.f (counted-head s lists (kind_number a.kind) _ _ c.of-row.ensures.heads_at c.in_ok-f.ensures)
+    c.args.layout.now.in_range c.requires.fit.0 _ _ refl refl refl refl (sym i.headed)
+    (rw (c.behind-key.ensures.1, c.raw.ensures.stored) (key-is (kind_number a.kind) c.in_ok-f.f a.first.now a.second.now lead rest _ b i))
+    (searched s pages lists (kind_number a.kind) c.in_ok-f.f a.first.now a.second.now lead rest _ _ _ (ap dictionary_number c.behind-key.ensures.0 ∙ c.of-row.ensures.main_at) b i q)
+    _ _ _ c.enter_name.ensures

@@ -1,6 +1,8 @@
 -- The entry itself. Assumes nothing.
+use Rattle.std.proofs.Common.{refl}
+use mathlib.Core.List.{append-nil}
 use Rattle.locate.proofs.Strings.{located-plain}
 use Rattle.locate.proofs.locate_plain.Goals as goal
 
 pub returns : goal.returns
-returns c = λ pages s lists there fits. located-plain s pages lists c.args.kind _ _ there fits c.requires
+returns c = λ s pages lists fits. located-plain s pages lists _ c.args.kind fits c.requires _ refl (append-nil c.args.stored.now)

@@ -12,9 +12,9 @@ more : (x y : Bytes) {z : Bytes} (at : ℕ) (t : Bytes) → z ≡ x ++ y
     → same_bytes z (drop at t) ≡ (same_bytes x (take (length x) (drop at t)) && same_bytes y (drop (at + length x) t))
 more x y at t e = rw (e, ← drop-drop (length x) at t) (same-append x y (drop at t))
 
-pub returns-then-stored-start : goal.returns-then-stored-start
-returns-then-stored-start c =
-    sym (same_length (encoded c.args.form c.args.tag.now) (drop c.args.start c.args.stored.now) (simp length-drop (omega arith)))
+pub returns-then-stored-measure_encoded : goal.returns-then-stored-measure_encoded
+returns-then-stored-measure_encoded c =
+    sym (same_length (encoded c.args.form c.args.tag.now) c.args.stored.now (omega arith))
 
 pub stands_at-requires : goal.stands_at-requires
 stands_at-requires c =

@@ -7,5 +7,5 @@ use Rattle.parts.proofs.same_encoded.Given as goal
 abbrev pub invariant-loop-b : goal.invariant-loop-b
 invariant-loop-b l = record {
   left : l.at + length (encoded l.form (drop l.b-index l.tag)) ≡ length l.stored;
-  same : same_bytes (encoded l.form (drop l.b-index l.tag)) (drop l.at l.stored) ≡ same_bytes (encoded l.form l.tag) (drop l.start l.stored);
+  same : same_bytes (encoded l.form (drop l.b-index l.tag)) (drop l.at l.stored) ≡ same_bytes (encoded l.form l.tag) l.stored;
 }

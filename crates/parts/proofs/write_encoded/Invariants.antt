@@ -6,6 +6,6 @@ use Rattle.parts.proofs.write_encoded.Given as goal
 
 abbrev pub invariant-loop-b : goal.invariant-loop-b
 invariant-loop-b l = record {
-  stored : sets l.dst l.at (encoded l.form (drop l.b-index l.tag)) ≡ sets l.fn.dst l.start (encoded l.form l.tag);
+  stored : sets l.dst l.at (encoded l.form (drop l.b-index l.tag)) ≡ sets l.fn.dst 0 (encoded l.form l.tag);
   room : l.at + length (encoded l.form (drop l.b-index l.tag)) ≤ length l.dst;
 }

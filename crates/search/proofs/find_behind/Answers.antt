@@ -5,14 +5,15 @@ use Rattle.layout.proofs.Ranges.{page-size, limit-fits}
 use Rattle.search.proofs.Keys.{hash-on}
 use Rattle.search.proofs.find_behind.Goals as goal
 
-pub invariant_of-key : goal.invariant_of-key
-invariant_of-key c =
+pub behind-key-requires-clause-hashed : goal.behind-key-requires-clause-hashed
+behind-key-requires-clause-hashed c =
     let a = c.args in
-    let l = a.memory.now.lists.layout in
     let front = c.as_slice-2.result.now in
     let e : c.as_slice.result.now ≡ front = c.as_slice.ensures ∙ sym c.as_slice-2.ensures in
-    record {
-      hashed = rw (c.raw.ensures.stored, c.raw-2.ensures.stored) (hash-on front a.rest.now _ _ (c.fnv.ensures ∙ ap fnv_of e) c.scan-y.ensures.0);
-      fits = rw (c.raw.ensures.stored, c.raw-2.ensures.stored)
-          (omega (arith, length-append front a.rest.now, page-size l.sizes l.in_range, limit-fits l.sizes l.in_range));
-    }
+    rw c.raw.ensures.stored (hash-on front a.rest.now _ _ (c.fnv.ensures ∙ ap fnv_of e) c.scan-x.ensures.0)
+
+pub behind-key-requires-clause-fits : goal.behind-key-requires-clause-fits
+behind-key-requires-clause-fits c =
+    let a = c.args in
+    let l = a.memory.now.lists.layout in
+    rw c.raw.ensures.stored (omega (arith, length-append c.as_slice-2.result.now a.rest.now, page-size l.sizes l.in_range, limit-fits l.sizes l.in_range))

@@ -1,32 +1,35 @@
 -- The head is found and the rest is searched behind it, or the head is missing. Assumes nothing.
-use Rattle.std.proofs.Common.{inl, sym, subst, ◌∙◌}
+use Rattle.std.proofs.Common.{◌≡◌, ◌++◌, inl, refl, sym, ◌∙◌}
 use Rattle.std.specs.Prelude.{Ok}
 use Rattle.layout.specs.Numbers.{kind_number}
-use Rattle.bytes_index.specs.declared.Probe.TheVariants.{Free}
+use Rattle.ranked_pair_dictionary.specs.FrequentId.{fid}
+use Rattle.bytes_index.specs.declared.Probe.TheVariants.{At, Free}
 use Rattle.bytes_index.specs.Search.{Searched}
 use Rattle.model.specs.Kinds.{row}
-use Rattle.search.specs.Found.{EndedBy}
+use Rattle.search.specs.Found.{key_behind}
 use Rattle.search.proofs.Keys.{scanned-hash}
+use Rattle.search.proofs.Ends.{key-ends}
 use Rattle.search.proofs.find_pair.Goals as goal
 
 pub find_head-requires : goal.find_head-requires
-find_head-requires c = scanned-hash _ c.scan-x.result.h c.scan-x.ensures.0
+find_head-requires c = scanned-hash _ c.scan-h.result.h c.scan-h.ensures.0
+
+pub returns-in-Ok-At-clause-ended : goal.returns-in-Ok-At-clause-ended
+returns-in-Ok-At-clause-ended c =
+    let a = c.args in
+    let m = a.memory.now in
+    let k = kind_number a.kind in
+    let w : Searched m.lists.layout.sizes (row k).heads_at m.pages.now m.lists.bytes.now a.head.now (Ok (At c.in-Ok-At.f)) = rw c.in-Ok-At.field-0-is at c.in-Ok-At.ensures in
+    let q : fid c.in-Ok-At.f ++ a.rest.now ≡ key_behind k c.in-Ok-At.f a.rest.now = rw c.requires.0 refl in
+    key-ends _ _ _ k c.in-Ok-At.f a.head.now a.rest.now _ _ _ q (λ y. (w, refl)) c.find_behind.ensures.found
 
 pub returns-in-Ok-Free-clause-ended : goal.returns-in-Ok-Free-clause-ended
 returns-in-Ok-Free-clause-ended c =
     let a = c.args in
     let m = a.memory.now in
-    let s = m.lists.layout.sizes in
     let k = kind_number a.kind in
-    let u = c.headless.ensures in
-    let w : Searched s (row k).heads_at m.pages.now m.lists.bytes.now a.head.now (Ok (Free c.in-Ok-Free.place)) = rw c.in-Ok-Free.field-0-is at c.in-Ok-Free.ensures in
-    subst (λ x. EndedBy s m.pages.now m.lists.bytes.now k a.head.now a.rest.now c.headless.result x) (sym u.0)
-    (record { paired = c.requires.0; hashed = u.1 ∙ scanned-hash _ _ c.scan-x.ensures.0; searched = w })
+    let w : Searched m.lists.layout.sizes (row k).heads_at m.pages.now m.lists.bytes.now a.head.now (Ok (Free c.in-Ok-Free.place)) = rw c.in-Ok-Free.field-0-is at c.in-Ok-Free.ensures in
+    record { ended = record { paired = c.requires.0; searched = w }; hashed = scanned-hash _ _ c.scan-h.ensures.0 }
 
 pub returns-in-Err-clause-ended : goal.returns-in-Err-clause-ended
-returns-in-Err-clause-ended c =
-    let a = c.args in
-    let m = a.memory.now in
-    let u = c.headless-in-Err.ensures in
-    subst (λ x. EndedBy m.lists.layout.sizes m.pages.now m.lists.bytes.now (kind_number a.kind) a.head.now a.rest.now c.headless-in-Err.result x) (sym u.0)
-    (inl (record { paired = c.requires.0; hashed = u.1 ∙ scanned-hash _ _ c.scan-x.ensures.0; searched = c.in-Err.ensures }))
+returns-in-Err-clause-ended c = inl (record { paired = c.requires.0; searched = c.in-Err.ensures })

@@ -1,5 +1,5 @@
 -- Each refusal, and the form in its two parts. Assumes nothing.
-use Rattle.std.proofs.Common.{◌≡◌, ◌+◌, ◌≤◌, length, sym, ap, ◌∙◌, arith}
+use Rattle.std.proofs.Common.{◌≡◌, ◌+◌, ◌≤◌, length, length-take, length-drop, sym, ap, ◌∙◌, arith}
 use Rattle.std.proofs.Math.Option.{none}
 use Rattle.std.proofs.lemmas.Result.{err_from_is_err_and}
 use Rattle.layout.specs.Sizes.{packed_limit}
@@ -41,8 +41,11 @@ returns-then-buffer-n c =
     (omega (arith, length-tagged-key z.text.now z.tag.now)) in
     (sym p.0, sym p.1)
 
-pub write_stored-requires-2 : goal.write_stored-requires-2
-write_stored-requires-2 c = omega (arith, ap length c.raw.ensures.stored)
+pub write-requires-2 : goal.write-requires-2
+write-requires-2 c =
+    let l = ap length c.write.ensures in
+    let t = ap length c.raw.ensures.stored in
+    simp (length-take, length-drop) (omega arith)
 
 pub returns : goal.returns
 returns c =
@@ -53,7 +56,5 @@ returns c =
     let whole = length-tagged-key text tag in
     let p = pack-done text tag b (told-legal _ (sym c.in_ok-check_pair.ensures)) (omega arith) in (
       rw (m, whole) (sym p.0),
-      c.write_stored-2.ensures
-          ∙ rw (c.raw.ensures.stored, c.write_stored.ensures, m, c.tag-front.ensures.stored) (placed-key text tag b (omega arith))
-          ∙ sym p.1,
+      placed-key text tag b _ _ _ (omega arith) m (rw c.tag-front.ensures.stored at c.write.ensures) (rw c.raw.ensures.stored at c.write-2.ensures) ∙ sym p.1,
     )

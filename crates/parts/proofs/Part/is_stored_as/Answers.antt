@@ -1,5 +1,6 @@
 -- The comparison of each mode. Assumes nothing.
-use Rattle.std.proofs.Common.{◌≡◌, ◌&&◌, [], ◌∷◌, take, drop, sym, ◌∙◌}
+use Rattle.std.proofs.Common.{◌≡◌, ◌&&◌, ◌-◌, [], ◌∷◌, length, take, drop, sym, ◌∙◌, arith, rules, length-drop}
+use lib.Seq.{take_all}
 use Rattle.slices.specs.Bytes.{Bytes, same_bytes}
 use Rattle.encoding.specs.Encoding.{form_of, first_byte, encoded}
 use Rattle.encoding.proofs.Laws.{tag-bytes}
@@ -17,13 +18,17 @@ pub returns-in-Raw : goal.returns-in-Raw
 unfolding bytes_of
 returns-in-Raw c = rw c.in-Raw.is c.same_raw.ensures
 
-pub returns-then-has_byte : goal.returns-then-has_byte
-returns-then-has_byte c =
-    let e = rw c.first_byte.ensures at c.if-has_byte.ensures in
-    rw c.in-Tag.is
-    ((rw c.of.ensures at c.same_encoded.ensures) ∙ (rw (← e) at (sym (tag c.args.self.bytes.now c.args.stored.now))))
+pub returns-then-eq : goal.returns-then-eq
+returns-then-eq c =
+    let t = c.args.stored.now in
+    let f : c.eq.result ≡ same_bytes (c.first_byte.result ∷ []) (take 1 t) = search rules in
+    let e = rw (c.first_byte.ensures, c.if-eq.true) at f in
+    let w : take (length t - 1) (drop 1 t) ≡ drop 1 t = take_all (length t - 1) (drop 1 t) (simp length-drop (omega arith)) in
+    rw c.in-Tag.is ((rw (c.of.ensures, w) at c.same_encoded.ensures) ∙ (rw (← e) at (sym (tag c.args.self.bytes.now t))))
 
-pub returns-else-has_byte : goal.returns-else-has_byte
-returns-else-has_byte c =
-    let e = rw c.first_byte.ensures at c.if-has_byte.ensures in
-    rw c.in-Tag.is (c.if-has_byte.false ∙ (rw (← e) at (sym (tag c.args.self.bytes.now c.args.stored.now))))
+pub returns-else-eq : goal.returns-else-eq
+returns-else-eq c =
+    let t = c.args.stored.now in
+    let f : c.eq.result ≡ same_bytes (c.first_byte.result ∷ []) (take 1 t) = search rules in
+    let e = rw (c.first_byte.ensures, c.if-eq.false) at f in
+    rw c.in-Tag.is (c.if-eq.false ∙ (rw (← e) at (sym (tag c.args.self.bytes.now t))))

@@ -1,6 +1,7 @@
 -- Each mode's bytes are stored at the front. Assumes nothing.
-use Rattle.std.proofs.Common.{◌≡◌, ◌∷◌, ◌∙◌, arith, length-set}
+use Rattle.std.proofs.Common.{◌≡◌, ◌∷◌, ◌-◌, ◌∙◌, length, set, arith, length-set, length-take, length-drop}
 use Rattle.slices.specs.Bytes.{Bytes}
+use Rattle.slices.proofs.Sets.{sets-mid}
 use Rattle.encoding.specs.Encoding.{form_of, first_byte, encoded}
 use Rattle.encoding.proofs.Laws.{tag-bytes}
 use Rattle.parts.specs.declared.Mode.{Mode}
@@ -23,10 +24,20 @@ write_raw-requires c = rw (raw c.args.self.bytes.now c.in-Raw.is) at c.requires
 pub bounds-dst-0 : goal.bounds-dst-0
 bounds-dst-0 c = omega (arith, rw (tag c.args.self.bytes.now c.in-Tag.is) at c.requires)
 
+pub slice_bounds-write_encoded-count : goal.slice_bounds-write_encoded-count
+slice_bounds-write_encoded-count c =
+    let r = rw (tag c.args.self.bytes.now c.in-Tag.is) at c.requires in
+    simp length-set (omega arith)
+
+pub slice_bounds-write_encoded-start : goal.slice_bounds-write_encoded-start
+slice_bounds-write_encoded-start c =
+    let r = rw (tag c.args.self.bytes.now c.in-Tag.is) at c.requires in
+    simp length-set (omega arith)
+
 pub write_encoded-requires : goal.write_encoded-requires
 write_encoded-requires c =
     let r = rw (tag c.args.self.bytes.now c.in-Tag.is) at c.requires in
-    rw c.of.ensures (simp length-set (omega arith))
+    rw c.of.ensures (simp (length-take, length-drop, length-set) (omega arith))
 
 pub returns-in-Raw : goal.returns-in-Raw
 returns-in-Raw c =
@@ -37,6 +48,8 @@ pub returns-in-Tag : goal.returns-in-Tag
 returns-in-Tag c =
     let s = c.args.self.bytes.now in
     let r = rw (tag s c.in-Tag.is) at c.requires in
-    rw (tag s c.in-Tag.is)
-    ((rw (c.of.ensures, c.first_byte.ensures) at c.write_encoded.ensures)
+    let e = rw (c.of.ensures, c.first_byte.ensures) at c.write_encoded.ensures in
+    let d = set c.args.dst.now 0 (first_byte s) in
+    rw (tag s c.in-Tag.is, e, c.first_byte.ensures)
+    (sets-mid (encoded (form_of s) s) d 1 (length d - 1) (simp length-set (omega arith)) (simp length-set (omega arith))
     ∙ sets-front (first_byte s ∷ encoded (form_of s) s) c.args.dst.now r)
