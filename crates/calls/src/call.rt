@@ -1,12 +1,12 @@
-// The calls. Each method that prints makes one call and prints it with its answer, on one line.
+// The calls on lent memory. Each method that prints, but for `beyond`, makes one call and prints it with its answer, on one line.
 use crate::script::Name;
 use crate::show::{Buffer, Counted, Found, Numbered, Part, Refused};
-use numbers::NamedictNumbered;
+use numbers::{NamedictName, NamedictNumbered};
 use std::fmt::{Display, Formatter};
 use std::io::Write;
 use std::{fmt, io};
 
-// A call on lent memory.
+// What is done with lent memory: a call, but for `Beyond`.
 #[derive(Clone, Copy)]
 pub enum Call {
     Open,
@@ -28,7 +28,7 @@ pub enum Call {
 
 impl Call {
     // The call that the first character of a line says.
-    // Kept: an Option. A character that is none of these is no error, and nobody would read an error type; TryFrom is no plainer.
+    // Kept: an Option, and no error type: nothing is told but that it is none. The caller prints "not a call".
     pub fn named(character: u8) -> Option<Call> {
         Some(match character {
             b'o' => Call::Open,
@@ -55,6 +55,7 @@ impl Display for Name {
 }
 
 // The sizes of a dictionary.
+// Kept: five u64, as the exported entry takes them. The input has sizes that are refused.
 #[derive(Clone, Copy)]
 pub struct Sizes {
     pub page_width: u64,
@@ -121,19 +122,10 @@ impl Memory<'_> {
             self.pages.len(),
             self.lists.len()
         )?;
-        let refusal = self.open_silently(sizes);
-        if refusal == 0 {
-            return writeln!(out, " done");
-        }
-        let refused = Refused(refusal, 0);
-        writeln!(out, "{refused}{}", self.left(refusal, before))
-    }
-
-    // Makes the call and prints nothing. Returns the refusal's number, 0 for none.
-    fn open_silently(&mut self, sizes: Sizes) -> u64 {
+        // Kept: two typed lets. Tried as arguments: the prover does not cover `self.pages`, which is only read, beside `self.lists`, which is written.
         let pages: &mut [u8] = self.pages;
         let lists: &mut [u8] = self.lists;
-        namedict::namedict_open(
+        let refusal = namedict::namedict_open(
             pages,
             lists,
             sizes.page_width,
@@ -141,7 +133,15 @@ impl Memory<'_> {
             sizes.list_length,
             sizes.block_width,
             sizes.block_count,
-        )
+        );
+        if refusal == 0 {
+            return writeln!(out, " done");
+        }
+        let refused = Refused {
+            refusal,
+            others: &[],
+        };
+        writeln!(out, "{refused}{}", self.left(refusal, before))
     }
 
     pub fn add<W: Write>(&mut self, out: &mut W, name: &Name) -> io::Result<()> {
@@ -173,14 +173,17 @@ impl Memory<'_> {
     }
 
     // Whether the number reads back as this name. The buffer is just as long as both parts.
-    // Kept: `replay` has a test like this one. It has its own type of names and a case of no name, so one for both is no plainer.
+    // Kept: `replay` has a test like this one. There a name is fields of its call, and a case of no name comes; so one for both is no plainer.
     pub fn reads_back(&self, number: u64, name: &Name, buffer: &mut [u8]) -> bool {
         let answer = namedict::namedict_read(self.pages, self.lists, number, buffer);
-        answer.refusal == 0
-            && answer.word == numbers::NAME
-            && answer.kind == name.kind
-            && answer.first_len == name.first.len() as u64
-            && answer.second_len == name.second.len() as u64
+        let expected = NamedictName {
+            refusal: 0,
+            word: numbers::NAME,
+            kind: name.kind,
+            first_len: name.first.len() as u64,
+            second_len: name.second.len() as u64,
+        };
+        answer == expected
             && buffer.strip_prefix(name.first.as_slice()) == Some(name.second.as_slice())
     }
 

@@ -1,10 +1,12 @@
-// The leaf rules. Each method makes one call and prints it with its answer, on one line.
-use crate::show::{Buffer, Part, Refused};
+// The leaf rules. `Rule::call` calls one and prints it with its answer, on one line.
+use crate::show;
+use crate::show::{Buffer, Part};
 use leaf_numbers::{NamedictUnpacked, NamedictValue, NamedictWritten};
 use std::fmt::{Display, Formatter};
 use std::io::Write;
 use std::{fmt, io};
 
+// Kept: a type for each answer, here and below. `Display` has to stand with one of its two types, and each answer of the C interface has other fields.
 #[derive(Clone, Copy)]
 struct Value(NamedictValue);
 
@@ -15,10 +17,8 @@ impl Display for Value {
             value,
             length,
         } = self.0;
-        if refusal != 0 {
-            return write!(f, "{}", Refused(refusal, value | length));
-        }
-        write!(f, " value {value} length {length}")
+        let answer = format_args!(" value {value} length {length}");
+        show::answered(f, refusal, &[value, length], answer)
     }
 }
 
@@ -28,10 +28,7 @@ struct Written(NamedictWritten);
 impl Display for Written {
     fn fmt<W: fmt::Write>(&self, f: &mut Formatter<W>) -> fmt::Result {
         let NamedictWritten { refusal, length } = self.0;
-        if refusal != 0 {
-            return write!(f, "{}", Refused(refusal, length));
-        }
-        write!(f, " length {length}")
+        show::answered(f, refusal, &[length], format_args!(" length {length}"))
     }
 }
 
@@ -45,15 +42,13 @@ impl Display for Unpacked {
             text_len,
             tag_len,
         } = self.0;
-        if refusal != 0 {
-            return write!(f, "{}", Refused(refusal, text_len | tag_len));
-        }
-        write!(f, " lengths {text_len} {tag_len}")
+        let answer = format_args!(" lengths {text_len} {tag_len}");
+        show::answered(f, refusal, &[text_len, tag_len], answer)
     }
 }
 
 // The end of a line: an answer, and the buffer after the call.
-fn answered<W: Write, A: Display + Drop>(out: &mut W, answer: A, buffer: &[u8]) -> io::Result<()> {
+fn end_line<W: Write, A: Display + Drop>(out: &mut W, answer: A, buffer: &[u8]) -> io::Result<()> {
     let room = buffer.len();
     let bytes = Buffer(buffer);
     writeln!(out, " in {room}:{answer}, buffer{bytes}")
@@ -74,7 +69,7 @@ pub enum Rule {
 
 impl Rule {
     // The rule that the first character of a line says.
-    // Kept: an Option. A character that is none of these is no error, and nobody would read an error type; TryFrom is no plainer.
+    // Kept: an Option, and no error type: nothing is told but that it is none. The caller tries the next table.
     pub fn named(character: u8) -> Option<Rule> {
         Some(match character {
             b'T' => Rule::IsText,
@@ -89,6 +84,7 @@ impl Rule {
     }
 
     // Calls the rule with what it needs of these.
+    // Kept: a match. Each case takes another part of the words, so closures or a trait would have the same bodies.
     pub fn call<W: Write>(
         self,
         out: &mut W,
@@ -112,17 +108,17 @@ impl Rule {
             Rule::WriteFid => {
                 write!(out, "write_fid {value}")?;
                 let answer = Written(namedict::namedict_write_fid(value, buffer));
-                answered(out, answer, buffer)
+                end_line(out, answer, buffer)
             }
             Rule::Pack => {
                 write!(out, "pack{part}{}", Part(second))?;
                 let answer = Written(namedict::namedict_pack(first, second, buffer));
-                answered(out, answer, buffer)
+                end_line(out, answer, buffer)
             }
             Rule::Unpack => {
                 write!(out, "unpack{part}")?;
                 let answer = Unpacked(namedict::namedict_unpack(first, buffer));
-                answered(out, answer, buffer)
+                end_line(out, answer, buffer)
             }
         }
     }

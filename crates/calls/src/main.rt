@@ -1,4 +1,4 @@
-// Makes the calls that its input lists, on all the exported entries. Prints each with its answer.
+// Makes the calls of its input, on all the exported entries. Prints each with its answer.
 // tools/expected_calls.py makes the files stdin and stdout. It has the answers from document 01, from published vectors, and from a running Nemo.
 #![tactic(auto)]
 

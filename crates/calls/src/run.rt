@@ -15,7 +15,8 @@
 //   m BYTE                           fills all the memory with that byte
 //   t TEXT                           prints the text, and no line end
 //   -- TEXT                          a title: prints the line as it is
-// An empty line prints a line end.
+// A line of no bytes or of one byte prints a line end. A line with any other character prints "not a call". Nothing is done with a
+// line of calls, or with such a line, if P or L is more than there is, nor with a line that asks for a buffer longer than LONGEST.
 use crate::call::{Call, Memory};
 use crate::leaf::Rule;
 use crate::script::{LONGEST, Name, Words};
@@ -25,9 +26,9 @@ use std::io::Write;
 use std::{io, mem};
 
 // The memory of all calls. Each call is lent a part of it.
-const PAGES: usize = 65536;
+const PAGE_BYTES: usize = 65536;
 
-const LISTS: usize = 20416;
+const LIST_BYTES: usize = 20416;
 
 // What a line is.
 #[derive(Clone, Copy)]
@@ -42,7 +43,7 @@ enum Line {
 
 impl Line {
     // What the first character of a line says.
-    // Kept: an Option. A character that is none of these is no error, and nobody would read an error type; TryFrom is no plainer.
+    // Kept: an Option, and no error type: nothing is told but that it is none. The caller prints "not a call".
     fn named(character: u8) -> Option<Line> {
         match character {
             b'-' => Some(Line::Title),
@@ -56,7 +57,7 @@ impl Line {
     }
 }
 
-// A buffer of AA; none if it would be longer than any buffer of the lists.
+// A buffer of AA; none if it would be longer than any buffer of the input.
 fn buffer(alloc: Global, length: u64) -> Result<Option<Vec<u8>>, AllocError> {
     if length > LONGEST as u64 {
         return Ok(None);
@@ -72,15 +73,13 @@ fn is_right(
     name: &Name,
     memory: &Memory<'_>,
 ) -> Result<bool, AllocError> {
-    let length = (name.first.len() as u64).saturating_add(name.second.len() as u64);
-    match buffer(alloc, length)? {
-        Some(mut bytes) => Ok(memory.reads_back(number, name, bytes.as_mut_slice())),
-        None => Ok(false),
-    }
+    let length = name.first.len().saturating_add(name.second.len());
+    let mut bytes = vec![in alloc; 0xAAu8; length]?;
+    Ok(memory.reads_back(number, name, bytes.as_mut_slice()))
 }
 
 // The memory of the dictionary.
-// Kept: each of the three programs has such a struct. A common one needs one more crate for two fields, and each program fills and sizes it in its own way.
+// Kept: each of the three programs has such a struct. A common one needs one more crate for two fields; `replay` fills it otherwise, and `checklist` sizes it otherwise.
 #[derive(Drop)]
 struct Whole {
     pages: Vec<u8>,
@@ -90,8 +89,8 @@ struct Whole {
 impl Whole {
     fn new(alloc: Global) -> Result<Whole, AllocError> {
         Ok(Whole {
-            pages: vec![in alloc; 0u8; PAGES]?,
-            lists: vec![in alloc; 0u8; LISTS]?,
+            pages: vec![in alloc; 0u8; PAGE_BYTES]?,
+            lists: vec![in alloc; 0u8; LIST_BYTES]?,
         })
     }
 
@@ -126,6 +125,7 @@ impl<W: Write> Runner<'_, W> {
             return writeln!(self.out);
         };
         let mut words = Words::new(text);
+        // Kept: a match, as in `call` below. Each case takes another part of the line.
         match Line::named(*character) {
             Some(Line::Title) => {
                 self.out.write_all(s)?;
@@ -169,6 +169,7 @@ impl<W: Write> Runner<'_, W> {
     }
 
     // A line with a call. Nothing is done if it is to be lent more than there is.
+    // Kept: a match. Each case takes another part of the words, so closures or a trait would have the same bodies.
     fn call(&mut self, call: Call, words: &mut Words<'_>) -> io::Result<()> {
         let alloc = self.alloc;
         let Some(mut memory) = self.memory.lend(words) else {
@@ -211,6 +212,7 @@ impl<W: Write> Runner<'_, W> {
 }
 
 // Runs the lines, one after the other.
+// Kept: `replay` has a loop like this one. A function for both would take what is done with a line as a closure, and is no plainer than three lines.
 pub fn run<W: Write>(out: &mut W, alloc: Global, input: &[u8]) -> io::Result<()> {
     let mut runner = Runner {
         out,

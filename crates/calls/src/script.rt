@@ -1,17 +1,18 @@
 // The words of a line: numbers, and the parts of a name.
-// A number is written in hexadecimal, with at most 16 digits.
+// A number is written in hexadecimal. A digit is taken only while the number is below `ROOM`.
 // A part is written as its bytes, two digits each. A '*' and a number behind a byte say how often it is repeated. A '.' ends that number if
 // more bytes follow: 612f78*f9e, 68*c8.2f68*c8. A part of no bytes is '-'.
-ghost use Rattle.std.specs.Prelude.{◌<◌, ◌≤◌, length, IfSome};
+ghost use Rattle.std.specs.Prelude.{◌≤◌, length};
 
 use crate::call::Sizes;
 use std::alloc::{AllocError, Global};
 
-// The longest packed form and buffer in the lists of calls. Both parts of a line have room for as many bytes together.
+// The longest packed form and buffer in the input. Both parts of a line have room for as many bytes together.
 pub const LONGEST: usize = 8004;
 
 // A name that a call is given.
-// Kept: the kind is a number. The lists have calls with kinds that are none, and the C interface takes any number.
+// Kept: a type of its own. It owns its bytes, because a line writes them in hexadecimal. The names of the other two programs borrow parts of the line,
+// and the library's own holds a `Kind`: here any number may come, as in the C interface.
 #[derive(Drop)]
 pub struct Name {
     pub kind: u64,
@@ -73,88 +74,52 @@ impl<'a> Words<'a> {
     }
 }
 
-// A digit's value.
-// Kept: std's `to_digit` is no plainer here: it takes A to F too, at which a number ends here.
-fn digit(b: u8) -> Option<u8>
-    ensures { IfSome result (λ d. d < 16) }
-{
-    match b {
-        b'0'..=b'9' => Some(b - b'0'),
-        b'a'..=b'f' => Some(b - b'a' + 10),
-        _ => None,
-    }
-}
-
 // A number below this has room for one more digit.
 const ROOM: u64 = 1 << 60;
-
-// The number in front of a text, and what is behind its digits.
-fn digits(text: &[u8]) -> (u64, &[u8])
-    ensures { length result.1.now ≤ length text.now }
-{
-    let mut value = 0;
-    for (i, b) in text.iter().enumerate() {
-        match digit(*b) {
-            Some(d) if value < ROOM => value = value * 16 + u64::from(d),
-            _ => return (value, &text[i..]),
-        }
-    }
-    (value, &[])
-}
 
 // The number in front of a text, and what is behind the byte after it.
 fn number(text: &[u8]) -> (u64, &[u8])
     ensures { length result.1.now ≤ length text.now }
 {
-    let (value, behind) = digits(text);
+    let (value, behind) = lines::digits::<16, ROOM>(text);
     (value, &behind[lines::behind(behind, 0)..])
 }
 
-// A byte of a part, how often it is repeated, and the text behind it.
+// A byte of a part, and how often it is repeated.
 #[derive(Clone, Copy)]
-struct Run<'a> {
+struct Run {
     byte: u8,
     count: u64,
-    behind: &'a [u8],
 }
 
 // The byte that two digits write.
 fn byte(high: u8, low: u8) -> Option<u8> {
-    let high = digit(high)?;
-    let low = digit(low)?;
+    let high = lines::digit::<16>(high)?;
+    let low = lines::digit::<16>(low)?;
     Some(high * 16 + low)
 }
 
-// The byte in front of a text, which has a first character. If that begins no byte, it is passed over: a byte that is repeated 0 times.
-fn run_at(first: u8, behind: &[u8]) -> Run<'_>
-    ensures { length result.behind.now ≤ length behind.now }
+// How often the byte in front of this text is repeated, and what is behind that.
+fn repeated(text: &[u8]) -> (u64, &[u8])
+    ensures { length result.1.now ≤ length text.now }
 {
-    let nothing = Run {
-        byte: 0,
-        count: 0,
-        behind,
-    };
-    let Some((low, behind)) = behind.split_first() else {
-        return nothing;
-    };
-    let Some(byte) = byte(first, *low) else {
-        return nothing;
-    };
-    match behind {
-        [b'*', repeated @ ..] => {
-            let (count, behind) = number(repeated);
-            Run {
-                byte,
-                count,
-                behind,
-            }
-        }
-        _ => Run {
-            byte,
-            count: 1,
-            behind,
-        },
+    match text {
+        [b'*', digits @ ..] => number(digits),
+        _ => (1, text),
     }
+}
+
+// The run in front of a text, which has a first character, and the text behind it. A character that begins no byte is passed over: there is no run.
+fn run_at(first: u8, behind: &[u8]) -> (Option<Run>, &[u8])
+    ensures { length result.1.now ≤ length behind.now }
+{
+    if let [low, text @ ..] = behind
+        && let Some(byte) = byte(first, *low)
+    {
+        let (count, behind) = repeated(text);
+        return (Some(Run { byte, count }), behind);
+    }
+    (None, behind)
 }
 
 // The bytes of a part. A run that has no room is left out.
@@ -162,15 +127,17 @@ fn part(alloc: Global, text: &[u8], room: usize) -> Result<Vec<u8>, AllocError> 
     let mut bytes = Vec::new(alloc);
     let mut rest = text;
     while let Some((first, behind)) = rest.split_first() {
-        let run = run_at(*first, behind);
-        put(&mut bytes, run, room)?;
-        rest = run.behind;
+        let (run, behind) = run_at(*first, behind);
+        if let Some(run) = run {
+            put(&mut bytes, run, room)?;
+        }
+        rest = behind;
     }
     Ok(bytes)
 }
 
 // Puts a run behind the bytes, or nothing if there would be more than `room`.
-fn put(bytes: &mut Vec<u8>, run: Run<'_>, room: usize) -> Result<(), AllocError> {
+fn put(bytes: &mut Vec<u8>, run: Run, room: usize) -> Result<(), AllocError> {
     let n = bytes.len();
     if n <= room && run.count <= (room - n) as u64 {
         bytes.resize(n + run.count as usize, run.byte)?;

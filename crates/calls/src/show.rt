@@ -23,6 +23,13 @@ impl Display for Character {
 #[derive(Clone, Copy)]
 struct Runs<'a>(&'a [u8]);
 
+impl Runs<'_> {
+    // The bytes as runs, if there are too many to be printed one by one.
+    fn of(bytes: &[u8]) -> Option<Runs<'_>> {
+        (bytes.len() > MOST_BYTES).then_some(Runs(bytes))
+    }
+}
+
 impl Display for Runs<'_> {
     fn fmt<W: fmt::Write>(&self, f: &mut Formatter<W>) -> fmt::Result {
         for run in self.0.chunk_by(|a, b| *a == *b) {
@@ -40,8 +47,8 @@ pub struct Part<'a>(pub &'a [u8]);
 
 impl Display for Part<'_> {
     fn fmt<W: fmt::Write>(&self, f: &mut Formatter<W>) -> fmt::Result {
-        if self.0.len() > MOST_BYTES {
-            return write!(f, "{}", Runs(self.0));
+        if let Some(runs) = Runs::of(self.0) {
+            return write!(f, "{runs}");
         }
         f.write_str(" \"")?;
         for b in self.0 {
@@ -57,8 +64,8 @@ pub struct Buffer<'a>(pub &'a [u8]);
 
 impl Display for Buffer<'_> {
     fn fmt<W: fmt::Write>(&self, f: &mut Formatter<W>) -> fmt::Result {
-        if self.0.len() > MOST_BYTES {
-            return write!(f, "{}", Runs(self.0));
+        if let Some(runs) = Runs::of(self.0) {
+            return write!(f, "{runs}");
         }
         for b in self.0 {
             write!(f, " {b:02x}")?;
@@ -68,25 +75,43 @@ impl Display for Buffer<'_> {
 }
 
 // A refusal and the numbers beside it. They should be 0; if they are not, that is printed.
-// Kept: the C interface gives refusals and words as numbers, and this program prints each one that comes, also one that no answer has.
+// Kept: a number, as the C interface gives it. This program prints each refusal that comes, also one that no answer has. At a word that no answer
+// has it prints "none with other numbers".
 #[derive(Clone, Copy)]
-pub struct Refused(pub u64, pub u64);
+pub struct Refused<'a> {
+    pub refusal: u64,
+    pub others: &'a [u64],
+}
 
-impl Display for Refused {
+impl Display for Refused<'_> {
     fn fmt<W: fmt::Write>(&self, f: &mut Formatter<W>) -> fmt::Result {
-        write!(f, " refused {}{}", self.0, beside(self.1))
+        write!(f, " refused {}{}", self.refusal, beside(self.others))
     }
 }
 
 // What is said of the numbers that should be 0.
-fn beside(others: u64) -> &'static str {
-    if others == 0 {
+fn beside(others: &[u64]) -> &'static str {
+    if others.iter().all(|n| *n == 0) {
         ""
     } else {
         " with other numbers"
     }
 }
 
+// Prints an answer, or that the call was refused. The others are all numbers of the answer beside the refusal.
+pub fn answered<W: fmt::Write, A: Display + Drop>(
+    f: &mut Formatter<W>,
+    refusal: u64,
+    others: &[u64],
+    answer: A,
+) -> fmt::Result {
+    if refusal != 0 {
+        return write!(f, "{}", Refused { refusal, others });
+    }
+    write!(f, "{answer}")
+}
+
+// Kept: a type for each answer, here and below. `Display` has to stand with one of its two types, and each answer of the C interface has other fields.
 #[derive(Clone, Copy)]
 pub struct Numbered(pub NamedictNumbered);
 
@@ -97,13 +122,11 @@ impl Display for Numbered {
             word,
             number,
         } = self.0;
-        if refusal != 0 {
-            return write!(f, "{}", Refused(refusal, word | number));
-        }
-        match word {
-            numbers::FRESH => write!(f, " fresh {number}"),
-            numbers::KNOWN => write!(f, " known {number}"),
-            _ => write!(f, " none{}", beside(word | number)),
+        let others = &[word, number];
+        match (refusal, word) {
+            (0, numbers::FRESH) => write!(f, " fresh {number}"),
+            (0, numbers::KNOWN) => write!(f, " known {number}"),
+            _ => answered(f, refusal, others, format_args!(" none{}", beside(others))),
         }
     }
 }
@@ -120,13 +143,10 @@ impl Display for Found {
             first_len,
             second_len,
         } = self.0;
-        let others = kind | first_len | second_len;
-        if refusal != 0 {
-            write!(f, "{}", Refused(refusal, word | others))
-        } else if word == numbers::NAME {
-            write!(f, " kind {kind} lengths {first_len} {second_len}")
-        } else {
-            write!(f, " none{}", beside(word | others))
+        let others = &[word, kind, first_len, second_len];
+        match (refusal, word) {
+            (0, numbers::NAME) => write!(f, " kind {kind} lengths {first_len} {second_len}"),
+            _ => answered(f, refusal, others, format_args!(" none{}", beside(others))),
         }
     }
 }
@@ -137,9 +157,6 @@ pub struct Counted(pub NamedictCounted);
 impl Display for Counted {
     fn fmt<W: fmt::Write>(&self, f: &mut Formatter<W>) -> fmt::Result {
         let NamedictCounted { refusal, count } = self.0;
-        if refusal != 0 {
-            return write!(f, "{}", Refused(refusal, count));
-        }
-        write!(f, " {count}")
+        answered(f, refusal, &[count], format_args!(" {count}"))
     }
 }

@@ -1,7 +1,7 @@
 // The commands, which the program's words name, and what each does.
 ghost use Rattle.std.specs.Prelude.{◌≤◌, length, IfSome};
 
-use crate::compare::{Held, Role};
+use crate::compare::{Held, Way};
 use crate::input::Task;
 use crate::names_in_memory::{Blocks, Names};
 use crate::number::{Number, ReadBack};
@@ -96,9 +96,9 @@ impl<R: Files + Input, W: Write + Drop> Checklist<'_, R, W> {
         match command {
             Command::Number(path) => self.number(path),
             Command::Read(path) => self.read(path),
-            Command::Compare(first, second) => self.hold(first, second, Role::Compared),
+            Command::Compare(first, second) => self.hold(first, second, Way::Compared),
             // The names are printed in the order of the first numbering, so the second is the base.
-            Command::Pair(first, second) => self.hold(second, first, Role::Paired),
+            Command::Pair(first, second) => self.hold(second, first, Way::Paired),
             Command::Blocks(blocks) => {
                 self.blocks = blocks;
                 self.begin()
@@ -118,11 +118,13 @@ impl<R: Files + Input, W: Write + Drop> Checklist<'_, R, W> {
 
     // Numbers the names of a file.
     fn number(&mut self, path: &[u8]) -> Result<(), Stop> {
-        let mut task = Number {
-            names: &mut self.names,
-        };
+        let mut task = Number::new(&mut self.names);
         let tally = self.host.file(path, &mut task)?;
-        report::numbered(&mut self.host.out, &tally)?;
+        writeln!(
+            self.host.out,
+            "# {}, {} refused",
+            task.counts, tally.refused
+        )?;
         Ok(())
     }
 
@@ -134,17 +136,17 @@ impl<R: Files + Input, W: Write + Drop> Checklist<'_, R, W> {
     }
 
     // Holds a numbering against a base. It uses the dictionary's memory, so a new dictionary is begun behind it.
-    fn hold(&mut self, base: &[u8], path: &[u8], role: Role) -> Result<(), Stop> {
-        self.hold_against(base, path, role)?;
+    fn hold(&mut self, base: &[u8], path: &[u8], way: Way) -> Result<(), Stop> {
+        self.hold_against(base, path, way)?;
         self.begin()
     }
 
-    fn hold_against(&mut self, base: &[u8], path: &[u8], role: Role) -> Result<(), Stop> {
+    fn hold_against(&mut self, base: &[u8], path: &[u8], way: Way) -> Result<(), Stop> {
         let mut held = Held::new(self.host.alloc, &mut self.names)?;
-        let of_base = self.host.file(base, &mut held)?;
-        held.role = role;
+        let tally = self.host.file(base, &mut held)?;
+        held.base_is_read(tally, way);
         let tally = self.host.file(path, &mut held)?;
-        held.tell(&mut self.host.out, &of_base, &tally)?;
+        held.tell(&mut self.host.out, tally)?;
         Ok(())
     }
 }

@@ -18,93 +18,132 @@ const BLOCKS: Blocks = Blocks {
 // The dictionary's numbers are below this.
 const NUMBERS: usize = 65536;
 
-// What the lines of a file are: those of the base, or lines that are held against it, to tell what differs or to tell each name's two numbers.
-// Kept: an enum is plainer than a trait for each role. The roles are closed, the same entries go from one to the next, and each match shows all of them side by side.
+// How a numbering is held against the base: to tell what differs, or to tell each name's two numbers.
+// Kept: an enum is plainer than a trait. The command says at run time which way it is, the ways are closed, and each match shows both side by side.
 #[derive(Clone, Copy)]
-pub enum Role {
-    Base,
+pub enum Way {
     Compared,
     Paired,
 }
 
-// What is known of a name: the number that the last line with it gave, and its line in the base, until the other numbering has the name too.
+// What lines that are held against the base have given so far.
 #[derive(Clone, Copy)]
+struct Against {
+    way: Way,
+    // How many lines of the base were refused.
+    base_refused: u64,
+    // How many names both have: with the same number, or paired; with two numbers.
+    agree: u64,
+    differ: u64,
+    // How many names the base does not have.
+    added: u64,
+}
+
+// What is known of a name: the number that the last line with it gave, and its line in the base, until the other numbering has the name too.
+#[derive(Clone, Copy, Default)]
 struct Entry {
     number: u64,
     base_line: Option<u64>,
+}
+
+impl Entry {
+    // Whether the base has the name, and the other numbering does not so far.
+    // Kept: a test for three filters. Tried: one function that gives these entries as an `impl Iterator`; the theorem of such a function cannot be stated.
+    fn only_in_base(&self) -> bool {
+        self.base_line.is_some()
+    }
 }
 
 // Two numberings, of which the base is read first.
 #[derive(Drop)]
 pub struct Held<'a> {
     names: &'a mut Names,
+    // By the dictionary's number of the name.
+    // Kept: a table. The dictionary's numbers are below 65,536, so a map is no plainer.
     entries: Vec<Entry>,
-    pub role: Role,
+    // None while the lines of the base are read.
+    against: Option<Against>,
 }
 
 impl<'a> Held<'a> {
     pub fn new(alloc: Global, names: &'a mut Names) -> Result<Held<'a>, AllocError> {
-        let entry = Entry {
-            number: 0,
-            base_line: None,
-        };
-        let entries = vec![in alloc; entry; NUMBERS]?;
+        let entries = vec![in alloc; Entry::default(); NUMBERS]?;
+        // Not refused: these blocks are within the limits, and the memory has the bytes for up to 4,096 blocks.
         let _ = names.open(BLOCKS);
         Ok(Held {
             names,
             entries,
-            role: Role::Base,
+            against: None,
         })
     }
 
-    // Prints what is known once the other numbering is held against the base.
-    pub fn tell<W: Write>(&self, out: &mut W, base: &Tally, t: &Tally) -> io::Result<()> {
-        match self.role {
-            Role::Base => Ok(()),
-            Role::Compared => self.tell_compared(out, base, t),
-            Role::Paired => self.tell_paired(out, base, t),
+    // The base is read, and gave this tally. The lines that follow are held against it.
+    pub fn base_is_read(&mut self, base: Tally, way: Way) {
+        self.against = Some(Against {
+            way,
+            base_refused: base.refused,
+            agree: 0,
+            differ: 0,
+            added: 0,
+        });
+    }
+
+    // Prints what is known once the other numbering, which gave this tally, is held against the base.
+    // Kept: functions. What `Against` has counted is printed in two ways, each with entries and their names, so a `Display` of it is no plainer.
+    pub fn tell<W: Write>(&self, out: &mut W, tally: Tally) -> io::Result<()> {
+        let Some(against) = self.against else {
+            return Ok(());
+        };
+        match against.way {
+            Way::Compared => self.tell_compared(out, against, tally.refused),
+            Way::Paired => self.tell_paired(out, against, tally.refused),
         }
     }
 
-    fn tell_compared<W: Write>(&self, out: &mut W, base: &Tally, t: &Tally) -> io::Result<()> {
+    fn tell_compared<W: Write>(
+        &self,
+        out: &mut W,
+        against: Against,
+        refused: u64,
+    ) -> io::Result<()> {
         if let Some((i, entry)) = self.first_missing() {
             self.missing(out, "first only in the first: ", i, *entry)?;
         }
         let missing = self.count_missing();
-        let Tally {
+        let Against {
+            base_refused,
             agree,
             differ,
             added,
-            refused,
             ..
-        } = *t;
+        } = against;
         write!(out, "# {agree} agree, {differ} differ, ")?;
         write!(
             out,
             "{missing} only in the first, {added} only in the second; "
         )?;
-        writeln!(out, "lines refused: {} and {refused}", base.refused)
+        writeln!(out, "lines refused: {base_refused} and {refused}")
     }
 
     // The base is the second of the two.
-    fn tell_paired<W: Write>(&self, out: &mut W, base: &Tally, t: &Tally) -> io::Result<()> {
+    fn tell_paired<W: Write>(&self, out: &mut W, against: Against, refused: u64) -> io::Result<()> {
         let entries = self.entries.iter().enumerate();
-        for (i, entry) in entries.filter(|(_, entry)| entry.base_line.is_some()) {
+        for (i, entry) in entries.filter(|(_, entry)| entry.only_in_base()) {
             self.missing(out, "# only in the second: ", i, *entry)?;
         }
         let missing = self.count_missing();
-        let Tally {
+        let Against {
+            base_refused,
             agree,
             added,
-            refused,
             ..
-        } = *t;
+        } = against;
         write!(out, "# {agree} in both, ")?;
         write!(
             out,
             "{added} only in the first, {missing} only in the second; "
         )?;
-        writeln!(out, "lines refused: {refused} and {}", base.refused)
+        writeln!(out, "lines refused: {refused} and {base_refused}")
     }
 
     // The entry of the first name that only the base has, and the dictionary's number of that name.
@@ -112,7 +151,7 @@ impl<'a> Held<'a> {
         self.entries
             .iter()
             .enumerate()
-            .filter(|(_, entry)| entry.base_line.is_some())
+            .filter(|(_, entry)| entry.only_in_base())
             .min_by_key(|(_, entry)| entry.base_line)
     }
 
@@ -120,7 +159,7 @@ impl<'a> Held<'a> {
     fn count_missing(&self) -> usize {
         self.entries
             .iter()
-            .filter(|entry| entry.base_line.is_some())
+            .filter(|entry| entry.only_in_base())
             .count()
     }
 
@@ -147,19 +186,13 @@ impl Task for Held<'_> {
             Ok(added) => added,
             Err(refusal) => return report.refused(refusal),
         };
+        // Kept: an `else` that is never taken. The dictionary's numbers are below `NUMBERS`, but `add` here has no contract that says so.
         let Some(entry) = self.entries.get_mut(added.number() as usize) else {
             return Ok(());
         };
-        let before = *entry;
-        entry.number = given.number;
-        entry.base_line = match (self.role, added) {
-            (Role::Base, Added::Fresh(_)) => Some(report.tally.line),
-            (Role::Base, Added::Known(_)) => before.base_line,
-            (Role::Compared | Role::Paired, _) => None,
-        };
-        match added {
-            Added::Fresh(_) => given.fresh(report, self.role),
-            Added::Known(_) => given.known(report, self.role, before),
+        match &mut self.against {
+            None => given.of_base(report, added, entry),
+            Some(against) => against.line(report, given, added, entry),
         }
     }
 }
@@ -172,6 +205,7 @@ struct Given<'a> {
     name: Name<'a>,
 }
 
+// Kept: an Option, and no TryFrom: nothing is told but that it is none.
 fn given_by(s: &[u8]) -> Option<Given<'_>> {
     let behind_word = s
         .strip_prefix(b"fresh ")
@@ -186,57 +220,105 @@ impl Given<'_> {
         report.number_and_line(before, self.number, self.text)
     }
 
-    // A name that neither had before.
-    fn fresh<W: Write>(self, report: &mut Report<'_, W>, role: Role) -> io::Result<()> {
-        match role {
-            Role::Base => return Ok(()),
-            Role::Compared if report.tally.added == 0 => {
-                self.print(report, "first only in the second: ")?;
+    // A line of the base, and the entry of its name.
+    fn of_base<W: Write>(
+        self,
+        report: &mut Report<'_, W>,
+        added: Added,
+        entry: &mut Entry,
+    ) -> io::Result<()> {
+        let before = entry.number;
+        entry.number = self.number;
+        match added {
+            Added::Fresh(_) => {
+                entry.base_line = Some(report.tally.line);
+                Ok(())
             }
-            Role::Compared => {}
-            Role::Paired => self.print(report, "# only in the first: ")?,
+            Added::Known(_) => self.again(report, before),
         }
-        count(&mut report.tally.added);
+    }
+
+    // A name that the same numbering had before, with the number `before`.
+    fn again<W: Write>(self, report: &mut Report<'_, W>, before: u64) -> io::Result<()> {
+        if before == self.number {
+            return Ok(());
+        }
+        self.print(report, "# twice, now with ")
+    }
+}
+
+impl Against {
+    // A line that is held against the base, and the entry of its name.
+    fn line<W: Write>(
+        &mut self,
+        report: &mut Report<'_, W>,
+        given: Given<'_>,
+        added: Added,
+        entry: &mut Entry,
+    ) -> io::Result<()> {
+        let before = *entry;
+        *entry = Entry {
+            number: given.number,
+            base_line: None,
+        };
+        match added {
+            Added::Fresh(_) => self.added(report, given),
+            Added::Known(_) if before.only_in_base() => self.both(report, given, before.number),
+            Added::Known(_) => given.again(report, before.number),
+        }
+    }
+
+    // A name that the base does not have.
+    fn added<W: Write>(&mut self, report: &mut Report<'_, W>, given: Given<'_>) -> io::Result<()> {
+        match self.way {
+            Way::Compared if self.added == 0 => {
+                given.print(report, "first only in the second: ")?;
+            }
+            Way::Compared => {}
+            Way::Paired => given.print(report, "# only in the first: ")?,
+        }
+        count(&mut self.added);
         Ok(())
     }
 
-    // A name that one of them had before.
-    fn known<W: Write>(
-        self,
+    // A name that both have, and that has the number `base` in the base.
+    fn both<W: Write>(
+        &mut self,
         report: &mut Report<'_, W>,
-        role: Role,
-        before: Entry,
+        given: Given<'_>,
+        base: u64,
     ) -> io::Result<()> {
-        let in_base = before.base_line.is_some();
-        match role {
-            Role::Compared if in_base => self.compared(report, before.number),
-            Role::Paired if in_base => {
-                count(&mut report.tally.agree);
-                write!(report.out, "{} ", self.number)?;
-                report.number_and_line("", before.number, self.text)
+        match self.way {
+            Way::Compared if base != given.number => self.differs(report, given, base),
+            Way::Compared => {
+                count(&mut self.agree);
+                Ok(())
             }
-            // The same numbering had it before.
-            _ if before.number != self.number => self.print(report, "# twice, now with "),
-            _ => Ok(()),
+            Way::Paired => {
+                count(&mut self.agree);
+                write!(report.out, "{} ", given.number)?;
+                report.number_and_line("", base, given.text)
+            }
         }
     }
 
-    // A name that the numbering compared has now for the first time, and that has the number `base` in the base.
-    fn compared<W: Write>(self, report: &mut Report<'_, W>, base: u64) -> io::Result<()> {
-        let Given { number, text, .. } = self;
-        if base == number {
-            count(&mut report.tally.agree);
-            return Ok(());
-        }
-        if report.tally.differ == 0 {
+    // A name that both have, with two numbers.
+    fn differs<W: Write>(
+        &mut self,
+        report: &mut Report<'_, W>,
+        given: Given<'_>,
+        base: u64,
+    ) -> io::Result<()> {
+        if self.differ == 0 {
+            let number = given.number;
             write!(
                 report.out,
                 "first difference: {base} in the first, {number} in the second: "
             )?;
-            report.out.write_all(text)?;
+            report.out.write_all(given.text)?;
             writeln!(report.out)?;
         }
-        count(&mut report.tally.differ);
+        count(&mut self.differ);
         Ok(())
     }
 }

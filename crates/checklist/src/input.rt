@@ -67,7 +67,7 @@ fn one<W: Write, T: Task>(report: &mut Report<'_, W>, task: &mut T, line: &[u8])
     }
 }
 
-// A line that is too long is refused, unless it is a remark.
+// A line that is too long is refused, unless it begins with '#'. No mark of UTF-8 is taken off it.
 fn too_long<W: Write>(report: &mut Report<'_, W>, line: &[u8]) -> io::Result<()> {
     count(&mut report.tally.line);
     match line {

@@ -1,5 +1,6 @@
 // The parts of a line: a decimal number, or a name. A name is its kind, a space, its first part and, behind a tab, its second part.
-// Kept: the kind is a number, as the C interface takes it. The library says which kinds there are.
+// Kept: a type of its own. It borrows parts of the line, as a name of `replay` does: a common type for the two would need one more crate. A name of `calls`
+// owns its bytes, and the library's own holds a `Kind`: here any number may come, as in the C interface.
 #[derive(Clone, Copy)]
 pub struct Name<'a> {
     pub kind: u64,
@@ -10,21 +11,10 @@ pub struct Name<'a> {
 // A number below this has room for one more digit.
 const ROOM: u64 = 1000000000000000000;
 
-// The number at the front of a line, and what is behind it. It has at most 19 digits, which 64 bits hold.
-// Kept: std's parse is no plainer. It reads text to its end and takes some numbers of 20 digits, so the digits would be counted here all the same.
-pub fn number(s: &[u8]) -> Option<(u64, &[u8])> {
-    let mut value = 0;
-    let mut rest = s;
-    while let [digit @ b'0'..=b'9', behind @ ..] = rest
-        && value < ROOM
-    {
-        value = value * 10 + u64::from(*digit - b'0');
-        rest = behind;
-    }
-    if rest.len() == s.len() {
-        return None;
-    }
-    Some((value, rest))
+// The number at the front of a line, and what is behind it. A digit is taken only while the number is below `ROOM`.
+fn number(s: &[u8]) -> Option<(u64, &[u8])> {
+    let (value, behind) = lines::digits::<10, ROOM>(s);
+    (behind.len() < s.len()).then_some((value, behind))
 }
 
 // The number that a whole line is.
@@ -42,6 +32,7 @@ pub fn numbered(s: &[u8]) -> Option<(u64, &[u8])> {
 }
 
 // The name that a line is.
+// Kept: an Option, and no TryFrom: nothing is told but that it is none.
 pub fn name_of(s: &[u8]) -> Option<Name<'_>> {
     let (kind, parts) = numbered(s)?;
     let mut parts = parts.splitn(2, |b| *b == b'\t');

@@ -1,6 +1,6 @@
 // The tool's dictionary: the library's entries on memory of its own, and their answers as results.
 use crate::line::Name;
-use numbers::NamedictName;
+use numbers::{NamedictName, NamedictNumbered};
 use refusals::Refusal;
 use std::alloc::{AllocError, Global};
 
@@ -34,6 +34,7 @@ impl Blocks {
 }
 
 // The number that a name has, and whether the name is new.
+// Kept: an enum of its own. The tool calls the exported entries alone, as a program in C does, and these give a u64 and a word.
 #[derive(Clone, Copy)]
 pub enum Added {
     Fresh(u64),
@@ -48,15 +49,28 @@ impl Added {
     }
 }
 
-// The refusal that an answer gives by its number; 0 stands for none. The library gives no number above the last refusal's, so the default is never taken.
-fn checked(refusal: u64) -> Result<(), Refusal> {
-    match refusal {
-        0 => Ok(()),
-        _ => Err(Refusal::try_from(refusal).unwrap_or(Refusal::CutForm)),
+impl TryFrom<NamedictNumbered> for Added {
+    type Error = Refusal;
+
+    fn try_from(answer: NamedictNumbered) -> Result<Added, Refusal> {
+        checked(answer.refusal)?;
+        Ok(match answer.word {
+            numbers::FRESH => Added::Fresh(answer.number),
+            _ => Added::Known(answer.number),
+        })
     }
 }
 
-// Kept: each of the three programs has such a struct. A common one needs one more crate for two fields, and each program fills and sizes it in its own way.
+// The refusal that an answer gives by its number. Any other answer has 0 there, which is no refusal's number: the library gives no other number.
+// Kept: a function. `From` has to stand beside one of its two types, and both are std's: `u64` and `Result`.
+fn checked(refusal: u64) -> Result<(), Refusal> {
+    match Refusal::try_from(refusal) {
+        Ok(why) => Err(why),
+        Err(_) => Ok(()),
+    }
+}
+
+// Kept: each of the three programs has such a struct. A common one needs one more crate for two fields; the two others size it otherwise.
 #[derive(Drop)]
 pub struct Names {
     pages: Vec<u8>,
@@ -70,6 +84,7 @@ impl Names {
             pages: vec![in alloc; 0u8; PAGE_BYTES]?,
             lists: vec![in alloc; 0u8; LIST_BYTES]?,
         };
+        // Not refused: these blocks are within the limits, and the memory has the bytes that they need.
         let _ = names.open(Blocks::NEMO);
         Ok(names)
     }
@@ -88,18 +103,9 @@ impl Names {
     }
 
     pub fn add(&mut self, name: Name<'_>) -> Result<Added, Refusal> {
-        let answer = namedict::namedict_add(
-            self.pages.as_mut_slice(),
-            self.lists.as_mut_slice(),
-            name.kind,
-            name.first,
-            name.second,
-        );
-        checked(answer.refusal)?;
-        Ok(match answer.word {
-            numbers::FRESH => Added::Fresh(answer.number),
-            _ => Added::Known(answer.number),
-        })
+        let pages = self.pages.as_mut_slice();
+        let lists = self.lists.as_mut_slice();
+        Added::try_from(namedict::namedict_add(pages, lists, name.kind, name.first, name.second))
     }
 
     // The name that has this number, if there is one. The buffer takes its parts.

@@ -3,13 +3,38 @@ use crate::input::Task;
 use crate::line;
 use crate::names_in_memory::{Added, LONGEST, Names};
 use crate::report::{Report, count};
-use std::io;
+use std::fmt::{Display, Formatter};
 use std::io::Write;
+use std::{fmt, io};
+
+// How many names were fresh, and how many known.
+#[derive(Clone, Copy, Default)]
+pub struct Counts {
+    fresh: u64,
+    known: u64,
+}
+
+impl Display for Counts {
+    fn fmt<W: fmt::Write>(&self, f: &mut Formatter<W>) -> fmt::Result {
+        let Counts { fresh, known } = *self;
+        write!(f, "{fresh} fresh, {known} known")
+    }
+}
 
 // Numbers the name of each line, and prints the line behind its answer.
 #[derive(Drop)]
 pub struct Number<'a> {
-    pub names: &'a mut Names,
+    names: &'a mut Names,
+    pub counts: Counts,
+}
+
+impl<'a> Number<'a> {
+    pub fn new(names: &'a mut Names) -> Number<'a> {
+        Number {
+            names,
+            counts: Counts::default(),
+        }
+    }
 }
 
 impl Task for Number<'_> {
@@ -17,17 +42,21 @@ impl Task for Number<'_> {
         let Some(name) = line::name_of(s) else {
             return report.passed_over("not a kind, a space and a name");
         };
-        match self.names.add(name) {
-            Ok(Added::Fresh(number)) => {
-                count(&mut report.tally.fresh);
-                report.number_and_line("fresh ", number, s)
+        let added = match self.names.add(name) {
+            Ok(added) => added,
+            Err(refusal) => return report.refused(refusal),
+        };
+        let word = match added {
+            Added::Fresh(_) => {
+                count(&mut self.counts.fresh);
+                "fresh "
             }
-            Ok(Added::Known(number)) => {
-                count(&mut report.tally.known);
-                report.number_and_line("known ", number, s)
+            Added::Known(_) => {
+                count(&mut self.counts.known);
+                "known "
             }
-            Err(refusal) => report.refused(refusal),
-        }
+        };
+        report.number_and_line(word, added.number(), s)
     }
 }
 

@@ -5,18 +5,11 @@ use std::fmt::Display;
 use std::io;
 use std::io::Write;
 
-// What the lines of a file have given so far.
+// How many lines of a file there were so far, and how many of them were refused. A task counts by itself what else they give.
 #[derive(Clone, Copy, Default)]
 pub struct Tally {
-    // Lines so far.
     pub line: u64,
-    pub fresh: u64,
-    pub known: u64,
     pub refused: u64,
-    // Of two numberings: how many names both have with the same number, or paired; both have with two numbers; the base does not have.
-    pub agree: u64,
-    pub differ: u64,
-    pub added: u64,
 }
 
 // Counts one more.
@@ -45,7 +38,7 @@ impl From<AllocError> for Stop {
     }
 }
 
-// Where the answers to the lines of a file are printed, and what the lines have given so far.
+// Where the answers to the lines of a file are printed, and how many lines there were so far.
 #[derive(Drop)]
 pub struct Report<'a, W> {
     pub out: &'a mut W,
@@ -76,16 +69,6 @@ pub fn remark<W: Write>(out: &mut W, what: &str, which: &[u8]) -> io::Result<()>
     write!(out, "# {what}")?;
     out.write_all(which)?;
     writeln!(out)
-}
-
-pub fn numbered<W: Write>(out: &mut W, tally: &Tally) -> io::Result<()> {
-    let Tally {
-        fresh,
-        known,
-        refused,
-        ..
-    } = *tally;
-    writeln!(out, "# {fresh} fresh, {known} known, {refused} refused")
 }
 
 pub fn usage<W: Write>(out: &mut W, word: &[u8]) -> io::Result<()> {

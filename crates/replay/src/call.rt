@@ -1,8 +1,6 @@
-// A call with the answer that the original gave. It is a line of the input: + add, ? find, # count, < or any other character read; the kind;
-// f fresh, k known, - none, n or any other character a name; the number in four hexadecimal digits and a space; the first part, '|', the
-// second part. A read is given the number, and the name is its answer.
-ghost use Rattle.std.specs.Prelude.{◌≤◌};
-
+// A call with the answer that the original gave. It is a line of the input: + add, ? find, # count, < read; the kind; f fresh, k known,
+// - none, n a name; the number in hexadecimal and a space; the first part, '|', the second part. A read is given the number, and the name is
+// its answer.
 use numbers::{NamedictCounted, NamedictName, NamedictNumbered};
 
 // Which entry is called.
@@ -14,15 +12,17 @@ pub enum Entry {
     Count,
 }
 
-// Kept: two matches. One function for both enums would need their characters as data, and is no plainer.
-impl From<u8> for Entry {
-    fn from(character: u8) -> Entry {
-        match character {
+impl Entry {
+    // The entry that a character says.
+    // Kept: an Option, and no error type, here and below: nothing is told but that it is none. The line is then no call.
+    fn named(character: u8) -> Option<Entry> {
+        Some(match character {
             b'+' => Entry::Add,
             b'?' => Entry::Find,
+            b'<' => Entry::Read,
             b'#' => Entry::Count,
-            _ => Entry::Read,
-        }
+            _ => return None,
+        })
     }
 }
 
@@ -35,18 +35,34 @@ enum Word {
     Nothing,
 }
 
-impl From<u8> for Word {
-    fn from(character: u8) -> Word {
-        match character {
+impl Word {
+    // The answer that a character says.
+    // Kept: two matches. One function for both enums would need their characters as data, and is no plainer.
+    fn named(character: u8) -> Option<Word> {
+        Some(match character {
             b'f' => Word::Fresh,
             b'k' => Word::Known,
+            b'n' => Word::Name,
             b'-' => Word::Nothing,
-            _ => Word::Name,
+            _ => return None,
+        })
+    }
+}
+
+// The number of the word in the C interface.
+impl From<Word> for u64 {
+    fn from(word: Word) -> u64 {
+        match word {
+            Word::Fresh => numbers::FRESH,
+            Word::Known => numbers::KNOWN,
+            Word::Name => numbers::NAME,
+            Word::Nothing => numbers::NONE,
         }
     }
 }
 
-// Kept: the kind is a number, as the C interface takes it.
+// Kept: the name has no type of its own here. It borrows parts of the line, as a name of `checklist` does: a common type for the two would need one
+// more crate. A name of `calls` owns its bytes, and the library's own holds a `Kind`: here any number may come, as in the C interface.
 #[derive(Clone, Copy)]
 pub struct Call<'a> {
     pub entry: Entry,
@@ -57,44 +73,35 @@ pub struct Call<'a> {
     pub second: &'a [u8],
 }
 
-// The value of a digit of the kind or of the number.
-// Kept: std's `to_digit` is no plainer. Here every character has a value, also one that is no digit.
-fn digit(character: u8) -> u64
-    ensures { result ≤ 255 }
-{
-    match character {
-        b'a'.. => u64::from(character - b'a') + 10,
-        b'0'.. => u64::from(character - b'0'),
-        _ => 0,
-    }
-}
+// A number below this has room for one more digit: the numbers are below 65,536.
+const ROOM: u64 = 1 << 12;
 
 impl<'a> Call<'a> {
     // The call that a line is.
     pub fn parse(line: &'a [u8]) -> Option<Call<'a>> {
-        let [entry, kind, word, a, b, c, d, _, name @ ..] = line else {
+        let [entry, kind, word, behind @ ..] = line else {
             return None;
         };
-        let mut parts = name.splitn(2, |b| *b == b'|');
+        let (number, behind) = lines::digits::<16, ROOM>(behind);
+        let mut parts = behind.strip_prefix(b" ")?.splitn(2, |b| *b == b'|');
         Some(Call {
-            entry: Entry::from(*entry),
-            kind: digit(*kind),
-            word: Word::from(*word),
-            number: ((digit(*a) * 16 + digit(*b)) * 16 + digit(*c)) * 16 + digit(*d),
+            entry: Entry::named(*entry)?,
+            kind: u64::from(lines::digit::<16>(*kind)?),
+            word: Word::named(*word)?,
+            number,
             first: parts.next()?,
             second: parts.next()?,
         })
     }
 
     // Whether this is the answer of add or of find.
-    // Kept: the C interface gives the words as numbers.
     pub fn is_numbered(self, answer: NamedictNumbered) -> bool {
-        let word = match self.word {
-            Word::Fresh => numbers::FRESH,
-            Word::Known => numbers::KNOWN,
-            Word::Name | Word::Nothing => numbers::NONE,
+        let expected = NamedictNumbered {
+            refusal: 0,
+            word: u64::from(self.word),
+            number: self.number,
         };
-        answer.refusal == 0 && answer.word == word && answer.number == self.number
+        answer == expected
     }
 
     // Whether this is the answer of read, which put the name's parts into the buffer.
@@ -103,11 +110,14 @@ impl<'a> Call<'a> {
         if self.word == Word::Nothing {
             return answer.refusal == 0 && answer.word == numbers::NONE;
         }
-        answer.refusal == 0
-            && answer.word == numbers::NAME
-            && answer.kind == self.kind
-            && answer.first_len == self.first.len() as u64
-            && answer.second_len == self.second.len() as u64
+        let expected = NamedictName {
+            refusal: 0,
+            word: u64::from(self.word),
+            kind: self.kind,
+            first_len: self.first.len() as u64,
+            second_len: self.second.len() as u64,
+        };
+        answer == expected
             && buffer
                 .strip_prefix(self.first)
                 .is_some_and(|behind| behind.starts_with(self.second))
@@ -115,6 +125,10 @@ impl<'a> Call<'a> {
 
     // Whether this is the answer of count.
     pub fn is_counted(self, answer: NamedictCounted) -> bool {
-        answer.refusal == 0 && answer.count == self.number
+        let expected = NamedictCounted {
+            refusal: 0,
+            count: self.number,
+        };
+        answer == expected
     }
 }

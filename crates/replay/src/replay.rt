@@ -1,4 +1,4 @@
-// Makes the calls that its input lists and compares the answers. A line is a call with its answer (call.rt), but for three:
+// Makes the calls of its input and compares the answers. A line is a call with its answer (call.rt), but for three:
 //   o        opens the dictionary anew
 //   = NAME   prints the name, how many calls there were and how many of them differ, and counts from 0 again
 //   -- TEXT  a title: prints the line as it is
@@ -80,6 +80,7 @@ impl<W: Write> Replay<'_, W> {
 }
 
 // Takes the lines, one after the other.
+// Kept: `calls` has a loop like this one. A function for both would take what is done with a line as a closure, and is no plainer than three lines.
 pub fn run<W: Write>(out: &mut W, alloc: Global, input: &[u8]) -> io::Result<()> {
     let mut replay = Replay {
         out,

@@ -1,0 +1,2 @@
+-- Laws of the digits.
+pub mod EachByte
