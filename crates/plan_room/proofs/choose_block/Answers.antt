@@ -1,4 +1,5 @@
 -- A block and a stamp by their laws, and the refusal if one of them is not there. Assumes nothing.
+use Rattle.std.proofs.Common.{rules}
 use Rattle.std.proofs.lemmas.Result.{err_from_is_err_and}
 use Rattle.plan_room.proofs.Steps.{chooses-unstamped, chooses-block}
 use Rattle.plan_room.proofs.choose_block.Goals as goal
@@ -10,3 +11,6 @@ returns-in_err-stamp c =
 
 pub returns : goal.returns
 returns c = chooses-block _ _ _ _ _ _ (rw c.in-Some.is at c.in_ok-g.ensures) c.in_ok-stamp.ensures
+
+pub returns-in_default : goal.returns-in_default
+returns-in_default c = search rules

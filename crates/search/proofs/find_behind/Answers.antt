@@ -1,5 +1,5 @@
 -- The key is the lead of the head's number, then the rest. Assumes nothing.
-use Rattle.std.proofs.Common.{◌≡◌, sym, ap, ◌∙◌, length-append, arith}
+use Rattle.std.proofs.Common.{◌≡◌, sym, ap, ◌∙◌, length-append, arith, rules}
 use Rattle.fnv.specs.Fnv.{fnv_of}
 use Rattle.layout.proofs.Ranges.{page-size, limit-fits}
 use Rattle.search.proofs.Keys.{hash-on}
@@ -17,3 +17,6 @@ behind-key-requires-clause-fits c =
     let a = c.args in
     let l = a.memory.now.lists.layout in
     rw c.raw.ensures.stored (omega (arith, length-append c.as_slice-2.result.now a.rest.now, page-size l.sizes l.in_range, limit-fits l.sizes l.in_range))
+
+pub returns-clause-ascii : goal.returns-clause-ascii
+returns-clause-ascii c = search rules

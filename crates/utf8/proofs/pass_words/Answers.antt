@@ -1,5 +1,5 @@
 -- `utf8::pass_words` meets its contract: eight ASCII bytes more are passed; of the last eight some may be passed already.
-use Rattle.std.proofs.Common.{ℕ, ◌≡◌, true, ◌+◌, ◌-◌, length, drop, take, ap, sym, ◌∙◌, arith}
+use Rattle.std.proofs.Common.{ℕ, ◌≡◌, true, ◌+◌, ◌-◌, length, drop, take, ap, sym, ◌∙◌, arith, rules}
 use lib.ListN.{length-take, length-drop}
 use lib.Seq.{take_all}
 use Rattle.utf8.specs.Passing.{ascii}
@@ -24,3 +24,9 @@ returns-in-Some-last_chunk c =
     let rest : length (take (length s - k) (drop k s)) ≡ length s - k = omega (arith, length-take {A = ℕ}, length-drop k s) in
     pass_on _ _ _ _ c.loop-bytes.invariant
     (rw p at (pass-run 8 s (length s - 8) k (omega (arith, q.0)) a (omega (arith, rest, c.in_default.ensures.cases)) (omega (arith, c.loop-bytes.invariant.1))))
+
+pub returns-in_default-last_chunk : goal.returns-in_default-last_chunk
+returns-in_default-last_chunk c = search rules
+
+pub returns-in_default-last_chunk-2 : goal.returns-in_default-last_chunk-2
+returns-in_default-last_chunk-2 c = search rules

@@ -1,0 +1,6 @@
+-- Must-fail edits are refused at these goals. A written answer makes their check short (CONTRIBUTING.md, the edit loop).
+use Rattle.std.proofs.Common.{rules}
+use Rattle.layout.proofs.lent.Memory.new.Goals as goal
+
+pub invariant_of-result : goal.invariant_of-result
+invariant_of-result c = search rules
