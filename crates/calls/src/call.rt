@@ -1,29 +1,36 @@
 // The calls on lent memory. Each method that prints, but for `beyond`, makes one call and prints it with its answer, on one line.
-use crate::script::Name;
-use crate::show::{Buffer, Counted, Found, Numbered, Part, Refused};
+use crate::script::{Name, Words};
+use crate::show;
+use crate::show::{Buffer, Counted, Found, Numbered, Opened, Part};
 use numbers::{NamedictName, NamedictNumbered};
 use std::fmt::{Display, Formatter};
 use std::io::Write;
 use std::{fmt, io};
 
-// What is done with lent memory: a call, but for `Beyond`.
+// What is done with lent memory.
 #[derive(Clone, Copy)]
 pub enum Call {
     Open,
-    Add,
-    Find,
+    Named(Named),
     Read,
     Count,
-    // Adds a name, and prints only the answer and no line end.
-    AddBriefly,
     // Counts, and prints only the answer and no line end.
     CountBriefly,
-    // Adds a name, and prints nothing.
-    AddSilently,
     // Reads a number, prints nothing, and counts whether it has the name.
     ReadBack,
     // No call of an entry: prints the bytes of the memory.
     Beyond,
+}
+
+// A call that is given a name.
+#[derive(Clone, Copy)]
+pub enum Named {
+    Add,
+    Find,
+    // Adds a name, and prints only the answer and no line end.
+    AddBriefly,
+    // Adds a name, and prints nothing.
+    AddSilently,
 }
 
 impl Call {
@@ -32,13 +39,13 @@ impl Call {
     pub fn named(character: u8) -> Option<Call> {
         Some(match character {
             b'o' => Call::Open,
-            b'a' => Call::Add,
-            b'f' => Call::Find,
+            b'a' => Call::Named(Named::Add),
+            b'f' => Call::Named(Named::Find),
             b'r' => Call::Read,
             b'c' => Call::Count,
-            b'A' => Call::AddBriefly,
+            b'A' => Call::Named(Named::AddBriefly),
             b'C' => Call::CountBriefly,
-            b'q' => Call::AddSilently,
+            b'q' => Call::Named(Named::AddSilently),
             b'=' => Call::ReadBack,
             b'b' => Call::Beyond,
             _ => return None,
@@ -116,16 +123,23 @@ impl Memory<'_> {
 
     pub fn open<W: Write>(&mut self, out: &mut W, sizes: Sizes) -> io::Result<()> {
         let before = self.hashes();
-        write!(
+        let refusal = self.open_silently(sizes);
+        let memory = self.left(refusal, before);
+        writeln!(
             out,
-            "open{sizes} in {} {}:",
+            "open{sizes} in {} {}:{}{memory}",
             self.pages.len(),
-            self.lists.len()
-        )?;
+            self.lists.len(),
+            Opened(refusal)
+        )
+    }
+
+    // Makes the call and prints nothing.
+    fn open_silently(&mut self, sizes: Sizes) -> u64 {
         // Kept: two typed lets. Tried as arguments: the prover does not cover `self.pages`, which is only read, beside `self.lists`, which is written.
         let pages: &mut [u8] = self.pages;
         let lists: &mut [u8] = self.lists;
-        let refusal = namedict::namedict_open(
+        namedict::namedict_open(
             pages,
             lists,
             sizes.page_width,
@@ -133,18 +147,29 @@ impl Memory<'_> {
             sizes.list_length,
             sizes.block_width,
             sizes.block_count,
-        );
-        if refusal == 0 {
-            return writeln!(out, " done");
-        }
-        let refused = Refused {
-            refusal,
-            others: &[],
-        };
-        writeln!(out, "{refused}{}", self.left(refusal, before))
+        )
     }
 
-    pub fn add<W: Write>(&mut self, out: &mut W, name: &Name) -> io::Result<()> {
+    // Makes a call that is given the name of a line.
+    pub fn named<W: Write>(
+        &mut self,
+        out: &mut W,
+        call: Named,
+        words: &mut Words<'_>,
+    ) -> io::Result<()> {
+        let name = words.name()?;
+        match call {
+            Named::Add => self.add(out, &name),
+            Named::Find => self.find(out, &name),
+            Named::AddBriefly => write!(out, "{}", Numbered(self.add_silently(&name))),
+            Named::AddSilently => {
+                let _ = self.add_silently(&name);
+                Ok(())
+            }
+        }
+    }
+
+    fn add<W: Write>(&mut self, out: &mut W, name: &Name) -> io::Result<()> {
         let before = self.hashes();
         let answer = self.add_silently(name);
         let memory = self.left(answer.refusal, before);
@@ -152,13 +177,13 @@ impl Memory<'_> {
     }
 
     // Makes the call and prints nothing.
-    pub fn add_silently(&mut self, name: &Name) -> NamedictNumbered {
+    fn add_silently(&mut self, name: &Name) -> NamedictNumbered {
         let first = name.first.as_slice();
         let second = name.second.as_slice();
         namedict::namedict_add(self.pages, self.lists, name.kind, first, second)
     }
 
-    pub fn find<W: Write>(&self, out: &mut W, name: &Name) -> io::Result<()> {
+    fn find<W: Write>(&self, out: &mut W, name: &Name) -> io::Result<()> {
         let first = name.first.as_slice();
         let second = name.second.as_slice();
         let answer = namedict::namedict_find(self.pages, self.lists, name.kind, first, second);
@@ -167,9 +192,7 @@ impl Memory<'_> {
 
     pub fn read<W: Write>(&self, out: &mut W, number: u64, buffer: &mut [u8]) -> io::Result<()> {
         let answer = Found(namedict::namedict_read(self.pages, self.lists, number, buffer));
-        let room = buffer.len();
-        let bytes = Buffer(buffer);
-        writeln!(out, "read {number} in {room}:{answer}, buffer{bytes}")
+        show::with_buffer(out, format_args!("read {number}"), answer, buffer)
     }
 
     // Whether the number reads back as this name. The buffer is just as long as both parts.
@@ -191,18 +214,23 @@ impl Memory<'_> {
         writeln!(out, "count {kind}:{}", self.count_silently(kind))
     }
 
+    // Prints only the answer and no line end.
+    pub fn count_briefly<W: Write>(&self, out: &mut W, kind: u64) -> io::Result<()> {
+        write!(out, "{}", self.count_silently(kind))
+    }
+
     // Makes the call and prints nothing.
-    pub fn count_silently(&self, kind: u64) -> Counted {
+    fn count_silently(&self, kind: u64) -> Counted {
         Counted(namedict::namedict_count(self.pages, self.lists, kind))
     }
 
     // Prints the pages from j on and the lists from k on.
     pub fn beyond<W: Write>(&self, out: &mut W, j: usize, k: usize) -> io::Result<()> {
-        if let Some(pages) = self.pages.get(j..)
-            && let Some(lists) = self.lists.get(k..)
-        {
-            writeln!(out, "beyond:{} and{}", Buffer(pages), Buffer(lists))?;
+        match (self.pages.get(j..), self.lists.get(k..)) {
+            (Some(pages), Some(lists)) => {
+                writeln!(out, "beyond:{} and{}", Buffer(pages), Buffer(lists))
+            }
+            _ => Ok(()),
         }
-        Ok(())
     }
 }

@@ -47,11 +47,14 @@ impl Display for Unpacked {
     }
 }
 
-// The end of a line: an answer, and the buffer after the call.
-fn end_line<W: Write, A: Display + Drop>(out: &mut W, answer: A, buffer: &[u8]) -> io::Result<()> {
-    let room = buffer.len();
-    let bytes = Buffer(buffer);
-    writeln!(out, " in {room}:{answer}, buffer{bytes}")
+// Prints the answer of a rule that takes one part.
+fn of_part<W: Write, A: Display + Drop>(
+    out: &mut W,
+    rule: &str,
+    part: &[u8],
+    answer: A,
+) -> io::Result<()> {
+    writeln!(out, "{rule}{}: {answer}", Part(part))
 }
 
 // A leaf rule.
@@ -62,6 +65,12 @@ pub enum Rule {
     // No exported rule: the hash with which the search starts.
     Hash,
     ReadFid,
+    Filling(Filling),
+}
+
+// A leaf rule that writes into a buffer.
+#[derive(Clone, Copy)]
+pub enum Filling {
     WriteFid,
     Pack,
     Unpack,
@@ -76,9 +85,9 @@ impl Rule {
             b'S' => Rule::SplitIri,
             b'H' => Rule::Hash,
             b'R' => Rule::ReadFid,
-            b'W' => Rule::WriteFid,
-            b'P' => Rule::Pack,
-            b'U' => Rule::Unpack,
+            b'W' => Rule::Filling(Filling::WriteFid),
+            b'P' => Rule::Filling(Filling::Pack),
+            b'U' => Rule::Filling(Filling::Unpack),
             _ => return None,
         })
     }
@@ -93,32 +102,42 @@ impl Rule {
         second: &[u8],
         buffer: &mut [u8],
     ) -> io::Result<()> {
-        let part = Part(first);
         match self {
-            Rule::IsText => writeln!(out, "is_text{part}: {}", namedict::namedict_is_text(first)),
-            Rule::SplitIri => {
-                let length = namedict::namedict_split_iri(first);
-                writeln!(out, "split_iri{part}: {length}")
-            }
-            Rule::Hash => writeln!(out, "fnv{part}: {:08x}", fnv::fnv(first)),
+            Rule::IsText => of_part(out, "is_text", first, namedict::namedict_is_text(first)),
+            Rule::SplitIri => of_part(out, "split_iri", first, namedict::namedict_split_iri(first)),
+            Rule::Hash => of_part(out, "fnv", first, format_args!("{:08x}", fnv::fnv(first))),
             Rule::ReadFid => {
                 let answer = Value(namedict::namedict_read_fid(first));
                 writeln!(out, "read_fid{}:{answer}", Buffer(first))
             }
-            Rule::WriteFid => {
-                write!(out, "write_fid {value}")?;
+            Rule::Filling(rule) => rule.call(out, value, first, second, buffer),
+        }
+    }
+}
+
+impl Filling {
+    fn call<W: Write>(
+        self,
+        out: &mut W,
+        value: u64,
+        first: &[u8],
+        second: &[u8],
+        buffer: &mut [u8],
+    ) -> io::Result<()> {
+        let part = Part(first);
+        match self {
+            Filling::WriteFid => {
                 let answer = Written(namedict::namedict_write_fid(value, buffer));
-                end_line(out, answer, buffer)
+                show::with_buffer(out, format_args!("write_fid {value}"), answer, buffer)
             }
-            Rule::Pack => {
-                write!(out, "pack{part}{}", Part(second))?;
+            Filling::Pack => {
+                let second_part = Part(second);
                 let answer = Written(namedict::namedict_pack(first, second, buffer));
-                end_line(out, answer, buffer)
+                show::with_buffer(out, format_args!("pack{part}{second_part}"), answer, buffer)
             }
-            Rule::Unpack => {
-                write!(out, "unpack{part}")?;
+            Filling::Unpack => {
                 let answer = Unpacked(namedict::namedict_unpack(first, buffer));
-                end_line(out, answer, buffer)
+                show::with_buffer(out, format_args!("unpack{part}"), answer, buffer)
             }
         }
     }

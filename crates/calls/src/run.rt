@@ -19,8 +19,7 @@
 // line of calls, or with such a line, if P or L is more than there is, nor with a line that asks for a buffer longer than LONGEST.
 use crate::call::{Call, Memory};
 use crate::leaf::Rule;
-use crate::script::{LONGEST, Name, Words};
-use crate::show::Numbered;
+use crate::script::Words;
 use std::alloc::{AllocError, Global};
 use std::io::Write;
 use std::{io, mem};
@@ -50,32 +49,37 @@ impl Line {
             b't' => Some(Line::Text),
             b'n' => Some(Line::Right),
             b'm' => Some(Line::Fill),
-            _ => Rule::named(character)
-                .map(Line::Rule)
-                .or_else(|| Call::named(character).map(Line::Call)),
+            _ => match Rule::named(character) {
+                Some(rule) => Some(Line::Rule(rule)),
+                None => Call::named(character).map(Line::Call),
+            },
         }
     }
 }
 
-// A buffer of AA; none if it would be longer than any buffer of the input.
-fn buffer(alloc: Global, length: u64) -> Result<Option<Vec<u8>>, AllocError> {
-    if length > LONGEST as u64 {
-        return Ok(None);
+// Reads the number of a line, into a buffer of the length behind it.
+fn read<W: Write>(out: &mut W, memory: &Memory<'_>, words: &mut Words<'_>) -> io::Result<()> {
+    let number = words.number();
+    match words.buffer()? {
+        Some(mut bytes) => memory.read(out, number, bytes.as_mut_slice()),
+        None => Ok(()),
     }
-    let bytes = vec![in alloc; 0xAAu8; length as usize]?;
-    Ok(Some(bytes))
 }
 
-// Whether the number's name is read back into a buffer just long enough.
-fn is_right(
+// Counts one more right if the number behind the name of a line has that name. It is read back into a buffer just long enough.
+fn read_back(
     alloc: Global,
-    number: u64,
-    name: &Name,
     memory: &Memory<'_>,
-) -> Result<bool, AllocError> {
+    words: &mut Words<'_>,
+    right: &mut u64,
+) -> io::Result<()> {
+    let name = words.name()?;
     let length = name.first.len().saturating_add(name.second.len());
     let mut bytes = vec![in alloc; 0xAAu8; length]?;
-    Ok(memory.reads_back(number, name, bytes.as_mut_slice()))
+    if memory.reads_back(words.number(), &name, bytes.as_mut_slice()) {
+        *right = right.saturating_add(1);
+    }
+    Ok(())
 }
 
 // The memory of the dictionary.
@@ -124,18 +128,12 @@ impl<W: Write> Runner<'_, W> {
         let [character, _, text @ ..] = s else {
             return writeln!(self.out);
         };
-        let mut words = Words::new(text);
+        let mut words = Words::new(self.alloc, text);
         // Kept: a match, as in `call` below. Each case takes another part of the line.
         match Line::named(*character) {
-            Some(Line::Title) => {
-                self.out.write_all(s)?;
-                writeln!(self.out)
-            }
+            Some(Line::Title) => self.title(s),
             Some(Line::Text) => self.out.write_all(text),
-            Some(Line::Right) => {
-                self.out.write_all(text)?;
-                writeln!(self.out, " {}", mem::take(&mut self.right))
-            }
+            Some(Line::Right) => self.tell_right(text),
             Some(Line::Fill) => {
                 if let Ok(byte) = u8::try_from(words.number()) {
                     self.memory.fill(byte);
@@ -144,19 +142,35 @@ impl<W: Write> Runner<'_, W> {
             }
             Some(Line::Rule(rule)) => self.rule(rule, &mut words),
             Some(Line::Call(call)) => self.call(call, &mut words),
-            None => match self.memory.lend(&mut words) {
-                Some(_) => writeln!(self.out, "not a call"),
-                None => Ok(()),
-            },
+            None => self.unknown(&mut words),
+        }
+    }
+
+    fn title(&mut self, s: &[u8]) -> io::Result<()> {
+        self.out.write_all(s)?;
+        writeln!(self.out)
+    }
+
+    // Prints the text and how many names were right, and counts from 0 again.
+    fn tell_right(&mut self, text: &[u8]) -> io::Result<()> {
+        self.out.write_all(text)?;
+        writeln!(self.out, " {}", mem::take(&mut self.right))
+    }
+
+    // A line that is none of these.
+    fn unknown(&mut self, words: &mut Words<'_>) -> io::Result<()> {
+        match self.memory.lend(words) {
+            Some(_) => writeln!(self.out, "not a call"),
+            None => Ok(()),
         }
     }
 
     // A line with a leaf rule: no memory is lent to it.
     fn rule(&mut self, rule: Rule, words: &mut Words<'_>) -> io::Result<()> {
         let value = words.number();
-        let length = words.number();
-        let (first, second) = words.parts(self.alloc)?;
-        match buffer(self.alloc, length)? {
+        let buffer = words.buffer()?;
+        let (first, second) = words.parts()?;
+        match buffer {
             Some(mut bytes) => rule.call(
                 self.out,
                 value,
@@ -171,37 +185,16 @@ impl<W: Write> Runner<'_, W> {
     // A line with a call. Nothing is done if it is to be lent more than there is.
     // Kept: a match. Each case takes another part of the words, so closures or a trait would have the same bodies.
     fn call(&mut self, call: Call, words: &mut Words<'_>) -> io::Result<()> {
-        let alloc = self.alloc;
         let Some(mut memory) = self.memory.lend(words) else {
             return Ok(());
         };
         match call {
             Call::Open => memory.open(self.out, words.sizes()),
-            Call::Add => memory.add(self.out, &words.name(alloc)?),
-            Call::Find => memory.find(self.out, &words.name(alloc)?),
-            Call::Read => {
-                let number = words.number();
-                match buffer(alloc, words.number())? {
-                    Some(mut bytes) => memory.read(self.out, number, bytes.as_mut_slice()),
-                    None => Ok(()),
-                }
-            }
+            Call::Named(call) => memory.named(self.out, call, words),
+            Call::Read => read(self.out, &memory, words),
             Call::Count => memory.count(self.out, words.number()),
-            Call::AddBriefly => {
-                let answer = memory.add_silently(&words.name(alloc)?);
-                write!(self.out, "{}", Numbered(answer))
-            }
-            Call::CountBriefly => write!(self.out, "{}", memory.count_silently(words.number())),
-            Call::AddSilently => {
-                let _ = memory.add_silently(&words.name(alloc)?);
-                Ok(())
-            }
-            Call::ReadBack => {
-                let name = words.name(alloc)?;
-                let right = is_right(alloc, words.number(), &name, &memory)?;
-                self.right = self.right.saturating_add(u64::from(right));
-                Ok(())
-            }
+            Call::CountBriefly => memory.count_briefly(self.out, words.number()),
+            Call::ReadBack => read_back(self.alloc, &memory, words, &mut self.right),
             Call::Beyond => {
                 let j = words.number() as usize;
                 let k = words.number() as usize;

@@ -8,7 +8,7 @@ use crate::call::Sizes;
 use std::alloc::{AllocError, Global};
 
 // The longest packed form and buffer in the input. Both parts of a line have room for as many bytes together.
-pub const LONGEST: usize = 8004;
+const LONGEST: usize = 8004;
 
 // A name that a call is given.
 // Kept: a type of its own. It owns its bytes, because a line writes them in hexadecimal. The names of the other two programs borrow parts of the line,
@@ -20,15 +20,16 @@ pub struct Name {
     pub second: Vec<u8>,
 }
 
-// The words of a line that are not read yet.
+// The words of a line that are not read yet, and where what they say is stored.
 #[derive(Drop)]
 pub struct Words<'a> {
+    alloc: Global,
     rest: &'a [u8],
 }
 
 impl<'a> Words<'a> {
-    pub fn new(line: &'a [u8]) -> Words<'a> {
-        Words { rest: line }
+    pub fn new(alloc: Global, line: &'a [u8]) -> Words<'a> {
+        Words { alloc, rest: line }
     }
 
     // The number in front. The byte behind it is passed over.
@@ -39,18 +40,28 @@ impl<'a> Words<'a> {
     }
 
     // The part in front, without the runs for which `room` bytes are too few.
-    fn part(&mut self, alloc: Global, room: usize) -> Result<Vec<u8>, AllocError> {
+    fn part(&mut self, room: usize) -> Result<Vec<u8>, AllocError> {
         let line = self.rest;
         let end = lines::end_of(line, 0, b' ');
         self.rest = &line[lines::behind(line, end)..];
-        part(alloc, &line[..end], room)
+        part(self.alloc, &line[..end], room)
     }
 
     // Two parts. What the first leaves is the room of the second.
-    pub fn parts(&mut self, alloc: Global) -> Result<(Vec<u8>, Vec<u8>), AllocError> {
-        let first = self.part(alloc, LONGEST)?;
-        let second = self.part(alloc, LONGEST.saturating_sub(first.len()))?;
+    pub fn parts(&mut self) -> Result<(Vec<u8>, Vec<u8>), AllocError> {
+        let first = self.part(LONGEST)?;
+        let second = self.part(LONGEST.saturating_sub(first.len()))?;
         Ok((first, second))
+    }
+
+    // A buffer of AA with the length in front; none if it would be longer than any buffer of the input.
+    pub fn buffer(&mut self) -> Result<Option<Vec<u8>>, AllocError> {
+        let length = self.number();
+        if length > LONGEST as u64 {
+            return Ok(None);
+        }
+        let bytes = vec![in self.alloc; 0xAAu8; length as usize]?;
+        Ok(Some(bytes))
     }
 
     pub fn sizes(&mut self) -> Sizes {
@@ -63,9 +74,9 @@ impl<'a> Words<'a> {
         }
     }
 
-    pub fn name(&mut self, alloc: Global) -> Result<Name, AllocError> {
+    pub fn name(&mut self) -> Result<Name, AllocError> {
         let kind = self.number();
-        let (first, second) = self.parts(alloc)?;
+        let (first, second) = self.parts()?;
         Ok(Name {
             kind,
             first,

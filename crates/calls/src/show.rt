@@ -1,7 +1,8 @@
 // How parts of names, buffers and answers are printed. Each begins with a space.
 use numbers::{NamedictCounted, NamedictName, NamedictNumbered};
-use std::fmt;
 use std::fmt::{Display, Formatter};
+use std::io::Write;
+use std::{fmt, io};
 
 // More bytes than this are printed as runs of equal bytes.
 const MOST_BYTES: usize = 48;
@@ -33,11 +34,16 @@ impl Runs<'_> {
 impl Display for Runs<'_> {
     fn fmt<W: fmt::Write>(&self, f: &mut Formatter<W>) -> fmt::Result {
         for run in self.0.chunk_by(|a, b| *a == *b) {
-            if let Some(b) = run.first() {
-                write!(f, " {} x '{}'", run.len(), Character(*b))?;
-            }
+            write_run(f, run)?;
         }
         Ok(())
+    }
+}
+
+fn write_run<W: fmt::Write>(f: &mut Formatter<W>, run: &[u8]) -> fmt::Result {
+    match run.first() {
+        Some(b) => write!(f, " {} x '{}'", run.len(), Character(*b)),
+        None => Ok(()),
     }
 }
 
@@ -74,21 +80,6 @@ impl Display for Buffer<'_> {
     }
 }
 
-// A refusal and the numbers beside it. They should be 0; if they are not, that is printed.
-// Kept: a number, as the C interface gives it. This program prints each refusal that comes, also one that no answer has. At a word that no answer
-// has it prints "none with other numbers".
-#[derive(Clone, Copy)]
-pub struct Refused<'a> {
-    pub refusal: u64,
-    pub others: &'a [u64],
-}
-
-impl Display for Refused<'_> {
-    fn fmt<W: fmt::Write>(&self, f: &mut Formatter<W>) -> fmt::Result {
-        write!(f, " refused {}{}", self.refusal, beside(self.others))
-    }
-}
-
 // What is said of the numbers that should be 0.
 fn beside(others: &[u64]) -> &'static str {
     if others.iter().all(|n| *n == 0) {
@@ -98,7 +89,10 @@ fn beside(others: &[u64]) -> &'static str {
     }
 }
 
-// Prints an answer, or that the call was refused. The others are all numbers of the answer beside the refusal.
+// Prints an answer, or that the call was refused. The others are all numbers of the answer beside the refusal. They should be 0 beside a refusal; if
+// they are not, that is printed.
+// Kept: a number, as the C interface gives it. This program prints each refusal that comes, also one that no answer has. At a word that no answer
+// has it prints "none with other numbers".
 pub fn answered<W: fmt::Write, A: Display + Drop>(
     f: &mut Formatter<W>,
     refusal: u64,
@@ -106,12 +100,34 @@ pub fn answered<W: fmt::Write, A: Display + Drop>(
     answer: A,
 ) -> fmt::Result {
     if refusal != 0 {
-        return write!(f, "{}", Refused { refusal, others });
+        return write!(f, " refused {refusal}{}", beside(others));
     }
     write!(f, "{answer}")
 }
 
+// Prints a call with its answer, and the buffer after it.
+pub fn with_buffer<W: Write, C: Display + Drop, A: Display + Drop>(
+    out: &mut W,
+    call: C,
+    answer: A,
+    buffer: &[u8],
+) -> io::Result<()> {
+    let room = buffer.len();
+    let bytes = Buffer(buffer);
+    writeln!(out, "{call} in {room}:{answer}, buffer{bytes}")
+}
+
 // Kept: a type for each answer, here and below. `Display` has to stand with one of its two types, and each answer of the C interface has other fields.
+// The answer of open: it has no numbers beside the refusal.
+#[derive(Clone, Copy)]
+pub struct Opened(pub u64);
+
+impl Display for Opened {
+    fn fmt<W: fmt::Write>(&self, f: &mut Formatter<W>) -> fmt::Result {
+        answered(f, self.0, &[], " done")
+    }
+}
+
 #[derive(Clone, Copy)]
 pub struct Numbered(pub NamedictNumbered);
 

@@ -23,33 +23,41 @@ enum Command<'a> {
     Blocks(Blocks),
 }
 
+// The command with this name and this one word.
+fn with_word<'a>(name: &[u8], word: &'a [u8]) -> Option<Command<'a>> {
+    match name {
+        b"number" => Some(Command::Number(word)),
+        b"read" => Some(Command::Read(word)),
+        _ => None,
+    }
+}
+
+// The command with this name and these two words.
+fn with_words<'a>(name: &[u8], first: &'a [u8], second: &'a [u8]) -> Option<Command<'a>> {
+    match name {
+        b"compare" => Some(Command::Compare(first, second)),
+        b"pair" => Some(Command::Pair(first, second)),
+        // A word that is no number stands for 0, which the library refuses.
+        b"blocks" => Some(Command::Blocks(Blocks {
+            width: line::whole_number(first).unwrap_or(0),
+            count: line::whole_number(second).unwrap_or(0),
+        })),
+        _ => None,
+    }
+}
+
 // The command with this name, and the words that are left behind its own.
 // Kept: a match, and no TryFrom. A command takes words too, and those that are left are for the next one.
 fn named<'a>(name: &[u8], words: &'a [Vec<u8>]) -> Option<(Command<'a>, &'a [Vec<u8>])>
     ensures { IfSome result (λ c. length c.1.now ≤ length words.now) }
 {
     let (first, words) = words.split_first()?;
-    let first = first.as_slice();
-    match name {
-        b"number" => return Some((Command::Number(first), words)),
-        b"read" => return Some((Command::Read(first), words)),
-        _ => {}
+    if let Some(command) = with_word(name, first.as_slice()) {
+        return Some((command, words));
     }
     let (second, words) = words.split_first()?;
-    let second = second.as_slice();
-    match name {
-        b"compare" => Some((Command::Compare(first, second), words)),
-        b"pair" => Some((Command::Pair(first, second), words)),
-        b"blocks" => {
-            // A word that is no number stands for 0, which the library refuses.
-            let blocks = Blocks {
-                width: line::whole_number(first).unwrap_or(0),
-                count: line::whole_number(second).unwrap_or(0),
-            };
-            Some((Command::Blocks(blocks), words))
-        }
-        _ => None,
-    }
+    let command = with_words(name, first.as_slice(), second.as_slice())?;
+    Some((command, words))
 }
 
 // A path that is not UTF-8 cannot be opened by std.
@@ -76,8 +84,7 @@ impl<R: Files + Input, W: Write> Host<'_, R, W> {
         // A pipe is open only when somebody begins to write into it.
         self.out.flush()?;
         let Some(file) = open(self.rt, path) else {
-            report::remark(&mut self.out, "cannot be opened: ", path)?;
-            return Err(Stop::Told);
+            return Err(report::give_up(&mut self.out, "cannot be opened: ", path));
         };
         input::run(file, self.alloc, &mut self.out, task)
     }
@@ -106,24 +113,41 @@ impl<R: Files + Input, W: Write + Drop> Checklist<'_, R, W> {
         }
     }
 
+    // Runs the commands one after the other. One that fails is the last.
+    fn all(&mut self, words: &[Vec<u8>]) -> Result<(), Stop> {
+        if words.is_empty() {
+            report::usage(&mut self.host.out, b"none")?;
+        }
+        let mut rest = words;
+        while let Some((name, behind)) = rest.split_first() {
+            let Some((command, behind)) = named(name.as_slice(), behind) else {
+                return Ok(report::usage(&mut self.host.out, name.as_slice())?);
+            };
+            self.run(command)?;
+            rest = behind;
+        }
+        Ok(())
+    }
+
     // Begins a dictionary with no names. A remark says so if it cannot have these blocks.
     fn begin(&mut self) -> Result<(), Stop> {
         let Err(refusal) = self.names.open(self.blocks) else {
             return Ok(());
         };
         let limits = "the width is 4 to 24, the count 1 to 4096";
-        writeln!(self.host.out, "# blocks: refused, {refusal} ({limits})")?;
-        Err(Stop::Told)
+        let what = format_args!("blocks: refused, {refusal} ({limits})");
+        Err(report::give_up(&mut self.host.out, what, b""))
     }
 
     // Numbers the names of a file.
     fn number(&mut self, path: &[u8]) -> Result<(), Stop> {
         let mut task = Number::new(&mut self.names);
         let tally = self.host.file(path, &mut task)?;
+        let Number { fresh, known, .. } = task;
+        let refused = tally.refused;
         writeln!(
             self.host.out,
-            "# {}, {} refused",
-            task.counts, tally.refused
+            "# {fresh} fresh, {known} known, {refused} refused"
         )?;
         Ok(())
     }
@@ -151,7 +175,7 @@ impl<R: Files + Input, W: Write + Drop> Checklist<'_, R, W> {
     }
 }
 
-// Runs the commands one after the other. One that fails is the last.
+// Runs the commands that these words name.
 pub fn run<R: Files + Input, W: Write + Drop>(
     rt: &R,
     alloc: Global,
@@ -163,20 +187,8 @@ pub fn run<R: Files + Input, W: Write + Drop>(
         names: Names::new(alloc)?,
         blocks: Blocks::NEMO,
     };
-    if words.is_empty() {
-        report::usage(&mut checklist.host.out, b"none")?;
+    match checklist.all(words) {
+        Err(Stop::Failed(error)) => Err(error),
+        Ok(()) | Err(Stop::Told) => checklist.host.out.flush(),
     }
-    let mut rest = words;
-    while let Some((name, behind)) = rest.split_first() {
-        let Some((command, behind)) = named(name.as_slice(), behind) else {
-            report::usage(&mut checklist.host.out, name.as_slice())?;
-            break;
-        };
-        match checklist.run(command) {
-            Ok(()) => rest = behind,
-            Err(Stop::Told) => break,
-            Err(Stop::Failed(error)) => return Err(error),
-        }
-    }
-    checklist.host.out.flush()
 }

@@ -117,20 +117,15 @@ impl<'a> Held<'a> {
             added,
             ..
         } = against;
-        write!(out, "# {agree} agree, {differ} differ, ")?;
-        write!(
+        writeln!(
             out,
-            "{missing} only in the first, {added} only in the second; "
-        )?;
-        writeln!(out, "lines refused: {base_refused} and {refused}")
+            "# {agree} agree, {differ} differ, {missing} only in the first, {added} only in the second; lines refused: {base_refused} and {refused}"
+        )
     }
 
     // The base is the second of the two.
     fn tell_paired<W: Write>(&self, out: &mut W, against: Against, refused: u64) -> io::Result<()> {
-        let entries = self.entries.iter().enumerate();
-        for (i, entry) in entries.filter(|(_, entry)| entry.only_in_base()) {
-            self.missing(out, "# only in the second: ", i, *entry)?;
-        }
+        self.all_missing(out)?;
         let missing = self.count_missing();
         let Against {
             base_refused,
@@ -138,12 +133,10 @@ impl<'a> Held<'a> {
             added,
             ..
         } = against;
-        write!(out, "# {agree} in both, ")?;
-        write!(
+        writeln!(
             out,
-            "{added} only in the first, {missing} only in the second; "
-        )?;
-        writeln!(out, "lines refused: {refused} and {base_refused}")
+            "# {agree} in both, {added} only in the first, {missing} only in the second; lines refused: {refused} and {base_refused}"
+        )
     }
 
     // The entry of the first name that only the base has, and the dictionary's number of that name.
@@ -161,6 +154,15 @@ impl<'a> Held<'a> {
             .iter()
             .filter(|entry| entry.only_in_base())
             .count()
+    }
+
+    // Prints the entries of the names that only the base has, which is the second of the two.
+    fn all_missing<W: Write>(&self, out: &mut W) -> io::Result<()> {
+        let entries = self.entries.iter().enumerate();
+        for (i, entry) in entries.filter(|(_, entry)| entry.only_in_base()) {
+            self.missing(out, "# only in the second: ", i, *entry)?;
+        }
+        Ok(())
     }
 
     // Prints the number and the name of an entry, whose name only the base has.
@@ -217,7 +219,7 @@ fn given_by(s: &[u8]) -> Option<Given<'_>> {
 
 impl Given<'_> {
     fn print<W: Write>(self, report: &mut Report<'_, W>, before: &str) -> io::Result<()> {
-        report.number_and_line(before, self.number, self.text)
+        report.line(format_args!("{before}{} ", self.number), self.text)
     }
 
     // A line of the base, and the entry of its name.
@@ -296,8 +298,7 @@ impl Against {
             }
             Way::Paired => {
                 count(&mut self.agree);
-                write!(report.out, "{} ", given.number)?;
-                report.number_and_line("", base, given.text)
+                report.line(format_args!("{} {base} ", given.number), given.text)
             }
         }
     }
@@ -311,12 +312,8 @@ impl Against {
     ) -> io::Result<()> {
         if self.differ == 0 {
             let number = given.number;
-            write!(
-                report.out,
-                "first difference: {base} in the first, {number} in the second: "
-            )?;
-            report.out.write_all(given.text)?;
-            writeln!(report.out)?;
+            let numbers = format_args!("{base} in the first, {number} in the second");
+            report.line(format_args!("first difference: {numbers}: "), given.text)?;
         }
         count(&mut self.differ);
         Ok(())

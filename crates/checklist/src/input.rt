@@ -76,6 +76,20 @@ fn too_long<W: Write>(report: &mut Report<'_, W>, line: &[u8]) -> io::Result<()>
     }
 }
 
+// Does the task with what was read next.
+fn take<W: Write, T: Task>(
+    report: &mut Report<'_, W>,
+    task: &mut T,
+    next: Next,
+    line: &[u8],
+) -> io::Result<()> {
+    match next {
+        Next::Line | Next::Last => one(report, task, line),
+        Next::Piece => too_long(report, line),
+        Next::End => Ok(()),
+    }
+}
+
 // Does the task with each line of an open file. A remark says so if it cannot be read to its end.
 pub fn run<R: Read + Drop, W: Write, T: Task>(
     file: R,
@@ -99,24 +113,15 @@ pub fn run<R: Read + Drop, W: Write, T: Task>(
             report.out.flush()?;
         }
         let Ok(next) = read_next(&mut lines, &mut line) else {
-            report::remark(&mut *report.out, "cannot be read to its end", b"")?;
-            return Err(Stop::Told);
+            return Err(report::give_up(report.out, "cannot be read to its end", b""));
         };
+        if !cut {
+            take(&mut report, task, next, line.as_slice())?;
+        }
         match next {
-            Next::Line if cut => cut = false,
-            Next::Line => one(&mut report, task, line.as_slice())?,
-            Next::Piece if cut => {}
-            Next::Piece => {
-                too_long(&mut report, line.as_slice())?;
-                cut = true;
-            }
-            Next::Last => {
-                if !cut {
-                    one(&mut report, task, line.as_slice())?;
-                }
-                break;
-            }
-            Next::End => break,
+            Next::Line => cut = false,
+            Next::Piece => cut = true,
+            Next::Last | Next::End => break,
         }
     }
     Ok(report.tally)

@@ -3,36 +3,24 @@ use crate::input::Task;
 use crate::line;
 use crate::names_in_memory::{Added, LONGEST, Names};
 use crate::report::{Report, count};
-use std::fmt::{Display, Formatter};
+use std::io;
 use std::io::Write;
-use std::{fmt, io};
-
-// How many names were fresh, and how many known.
-#[derive(Clone, Copy, Default)]
-pub struct Counts {
-    fresh: u64,
-    known: u64,
-}
-
-impl Display for Counts {
-    fn fmt<W: fmt::Write>(&self, f: &mut Formatter<W>) -> fmt::Result {
-        let Counts { fresh, known } = *self;
-        write!(f, "{fresh} fresh, {known} known")
-    }
-}
 
 // Numbers the name of each line, and prints the line behind its answer.
 #[derive(Drop)]
 pub struct Number<'a> {
     names: &'a mut Names,
-    pub counts: Counts,
+    // How many names were fresh, and how many known.
+    pub fresh: u64,
+    pub known: u64,
 }
 
 impl<'a> Number<'a> {
     pub fn new(names: &'a mut Names) -> Number<'a> {
         Number {
             names,
-            counts: Counts::default(),
+            fresh: 0,
+            known: 0,
         }
     }
 }
@@ -48,15 +36,15 @@ impl Task for Number<'_> {
         };
         let word = match added {
             Added::Fresh(_) => {
-                count(&mut self.counts.fresh);
-                "fresh "
+                count(&mut self.fresh);
+                "fresh"
             }
             Added::Known(_) => {
-                count(&mut self.counts.known);
-                "known "
+                count(&mut self.known);
+                "known"
             }
         };
-        report.number_and_line(word, added.number(), s)
+        report.line(format_args!("{word} {} ", added.number()), s)
     }
 }
 

@@ -46,11 +46,9 @@ pub struct Report<'a, W> {
 }
 
 impl<W: Write> Report<'_, W> {
-    // Prints a number, and a line or a name behind it.
-    pub fn number_and_line(&mut self, before: &str, number: u64, s: &[u8]) -> io::Result<()> {
-        write!(self.out, "{before}{number} ")?;
-        self.out.write_all(s)?;
-        writeln!(self.out)
+    // Prints a line or a name, and what stands before it.
+    pub fn line<B: Display + Drop>(&mut self, before: B, s: &[u8]) -> io::Result<()> {
+        line(self.out, before, s)
     }
 
     // Prints why a line cannot be taken, and counts it as refused.
@@ -65,12 +63,26 @@ impl<W: Write> Report<'_, W> {
     }
 }
 
-pub fn remark<W: Write>(out: &mut W, what: &str, which: &[u8]) -> io::Result<()> {
-    write!(out, "# {what}")?;
-    out.write_all(which)?;
+// Prints a line that ends in bytes which need not be text.
+pub fn line<W: Write, B: Display + Drop>(out: &mut W, before: B, s: &[u8]) -> io::Result<()> {
+    write!(out, "{before}")?;
+    out.write_all(s)?;
     writeln!(out)
 }
 
+pub fn remark<W: Write, D: Display + Drop>(out: &mut W, what: D, which: &[u8]) -> io::Result<()> {
+    line(out, format_args!("# {what}"), which)
+}
+
+// Prints a remark why a command stops.
+pub fn give_up<W: Write, D: Display + Drop>(out: &mut W, what: D, which: &[u8]) -> Stop {
+    match remark(out, what, which) {
+        Ok(()) => Stop::Told,
+        Err(error) => Stop::Failed(error),
+    }
+}
+
+// Prints which commands there are, at a word that names none.
 pub fn usage<W: Write>(out: &mut W, word: &[u8]) -> io::Result<()> {
     remark(out, "not a command with its words: ", word)?;
     let commands = "number FILE, read FILE, compare FILE FILE, pair FILE FILE, blocks WIDTH COUNT";

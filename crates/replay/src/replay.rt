@@ -5,9 +5,8 @@
 use crate::call::Call;
 use crate::dictionary_memory::Memory;
 use std::alloc::Global;
-use std::fmt::{Display, Formatter};
 use std::io::Write;
-use std::{fmt, io, mem};
+use std::{io, mem};
 
 // How many calls were made, and how many of them had another answer.
 #[derive(Clone, Copy, Default)]
@@ -22,13 +21,6 @@ impl Tally {
         if !agrees {
             self.differ = self.differ.wrapping_add(1);
         }
-    }
-}
-
-impl Display for Tally {
-    fn fmt<W: fmt::Write>(&self, f: &mut Formatter<W>) -> fmt::Result {
-        let Tally { calls, differ } = *self;
-        write!(f, "{calls} calls, {differ} differ")
     }
 }
 
@@ -47,9 +39,9 @@ impl<W: Write> Replay<'_, W> {
             [] | [_] => self.open(),
             [b'-', ..] => self.print(line),
             [b'=', _, name @ ..] => {
-                let tally = mem::take(&mut self.tally);
+                let Tally { calls, differ } = mem::take(&mut self.tally);
                 self.out.write_all(name)?;
-                writeln!(self.out, ": {tally}")
+                writeln!(self.out, ": {calls} calls, {differ} differ")
             }
             _ => self.call(line),
         }
