@@ -1,6 +1,8 @@
-// A call with the answer that the original gave. It is a line of the input: + add, ? find, # count, < read; the kind; f fresh, k known,
-// - none, n a name; the number in hexadecimal and a space; the first part, '|', the second part. A read is given the number, and the name is
-// its answer.
+// A call with the answer that the original gave. It is a line of the input: + add, ? find, # count, < or any other character read; the kind;
+// f fresh, k known, - none, n or any other character a name; the number in four hexadecimal digits and a space; the first part, '|', the
+// second part. A read is given the number, and the name is its answer.
+ghost use Rattle.std.specs.Prelude.{◌≤◌};
+
 use numbers::{NamedictCounted, NamedictName, NamedictNumbered};
 
 // Which entry is called.
@@ -12,17 +14,15 @@ pub enum Entry {
     Count,
 }
 
-impl Entry {
-    // The entry that a character says.
-    // Kept: an Option, and no error type, here and below: nothing is told but that it is none. The line is then no call.
-    fn named(character: u8) -> Option<Entry> {
-        Some(match character {
+// The entry that a character says.
+impl From<u8> for Entry {
+    fn from(character: u8) -> Entry {
+        match character {
             b'+' => Entry::Add,
             b'?' => Entry::Find,
-            b'<' => Entry::Read,
             b'#' => Entry::Count,
-            _ => return None,
-        })
+            _ => Entry::Read,
+        }
     }
 }
 
@@ -35,28 +35,15 @@ enum Word {
     Nothing,
 }
 
-impl Word {
-    // The answer that a character says.
-    // Kept: two matches. One function for both enums would need their characters as data, and is no plainer.
-    fn named(character: u8) -> Option<Word> {
-        Some(match character {
+// The answer that a character says.
+// Kept: two matches. One function for both enums would need their characters as data, and is no plainer.
+impl From<u8> for Word {
+    fn from(character: u8) -> Word {
+        match character {
             b'f' => Word::Fresh,
             b'k' => Word::Known,
-            b'n' => Word::Name,
             b'-' => Word::Nothing,
-            _ => return None,
-        })
-    }
-}
-
-// The number of the word in the C interface.
-impl From<Word> for u64 {
-    fn from(word: Word) -> u64 {
-        match word {
-            Word::Fresh => numbers::FRESH,
-            Word::Known => numbers::KNOWN,
-            Word::Name => numbers::NAME,
-            Word::Nothing => numbers::NONE,
+            _ => Word::Name,
         }
     }
 }
@@ -73,32 +60,45 @@ pub struct Call<'a> {
     pub second: &'a [u8],
 }
 
-// A number below this has room for one more digit: the numbers are below 65,536.
-const ROOM: u64 = 1 << 12;
+// The value of a digit of the kind or of the number.
+// Kept: std's `to_digit` and `lines::digit` are no plainer here. Every character has a value, also one that is no digit.
+fn digit(character: u8) -> u64
+    ensures { result ≤ 255 }
+{
+    match character {
+        b'a'.. => u64::from(character - b'a') + 10,
+        b'0'.. => u64::from(character - b'0'),
+        _ => 0,
+    }
+}
 
 impl<'a> Call<'a> {
-    // The call that a line is.
+    // The call that a line is. None: the line is too short, or has no '|'.
     pub fn parse(line: &'a [u8]) -> Option<Call<'a>> {
-        let [entry, kind, word, behind @ ..] = line else {
+        let [entry, kind, word, a, b, c, d, _, name @ ..] = line else {
             return None;
         };
-        let (number, behind) = lines::digits::<16, ROOM>(behind);
-        let mut parts = behind.strip_prefix(b" ")?.splitn(2, |b| *b == b'|');
+        let mut parts = name.splitn(2, |b| *b == b'|');
         Some(Call {
-            entry: Entry::named(*entry)?,
-            kind: u64::from(lines::digit::<16>(*kind)?),
-            word: Word::named(*word)?,
-            number,
+            entry: Entry::from(*entry),
+            kind: digit(*kind),
+            word: Word::from(*word),
+            number: ((digit(*a) * 16 + digit(*b)) * 16 + digit(*c)) * 16 + digit(*d),
             first: parts.next()?,
             second: parts.next()?,
         })
     }
 
-    // Whether this is the answer of add or of find.
+    // Whether this is the answer of add or of find. Neither answers with a name.
     pub fn is_numbered(self, answer: NamedictNumbered) -> bool {
+        let word = match self.word {
+            Word::Fresh => numbers::FRESH,
+            Word::Known => numbers::KNOWN,
+            Word::Name | Word::Nothing => numbers::NONE,
+        };
         let expected = NamedictNumbered {
             refusal: 0,
-            word: u64::from(self.word),
+            word,
             number: self.number,
         };
         answer == expected
@@ -112,7 +112,7 @@ impl<'a> Call<'a> {
         }
         let expected = NamedictName {
             refusal: 0,
-            word: u64::from(self.word),
+            word: numbers::NAME,
             kind: self.kind,
             first_len: self.first.len() as u64,
             second_len: self.second.len() as u64,
