@@ -23,7 +23,7 @@ pub fn add<'a>(
     let memory = header::check_header(pages, lists)?;
     let layout = memory.lists.layout;
     let name = Name::new(layout.sizes, kind, first, second)?;
-    let found = search::find_name(&memory, &name)?;
+    let found = search::find_legal_name(&memory, &name)?;
     match &found {
         Search::Found(local) => commit::known(&memory.lists, name.kind, *local),
         Search::Missing(place) => enter::add_name(pages, lists, &layout, &name, place),

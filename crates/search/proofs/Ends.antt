@@ -9,6 +9,7 @@ use Rattle.slices.specs.Bytes.{Bytes}
 use Rattle.slices.proofs.Tests.{Split, split}
 use Rattle.refusals.specs.declared.Refusal.{Refusal}
 use Rattle.refusals.specs.declared.Refusal.TheVariants.{Unopened}
+use Rattle.fnv.specs.Fnv.{fnv_of}
 use Rattle.layout.specs.declared.Sizes.{Sizes}
 use Rattle.layout.specs.Sizes.{kinds}
 use Rattle.ranked_pair_dictionary.specs.FrequentId.{fid}
@@ -27,7 +28,9 @@ use Rattle.memory.proofs.Probes.{main-at, main-free, main-bad, head_at, head-fre
 use Rattle.search.specs.declared.Place.TheVariants.{Key, Head}
 use Rattle.search.specs.declared.Search.{Search}
 use Rattle.search.specs.declared.Search.TheVariants.{Found, Missing}
+use Rattle.search.specs.declared.Sought.{Sought}
 use Rattle.search.specs.Found.{Tells, EndsKey, key_behind, KeyEnded, HeadEnded, EndedBy, SearchEnded}
+use Rattle.search.specs.Sought.{KeyHashed, HashedBy}
 
 -- The search for a key, as a part of the search for a name.
 pub key-ends : (s : Sizes) (pages lists : Bytes) (k f : ℕ) (head rest : Bytes) (key lead : Bytes) (r : Result Search Refusal) → key ≡ key_behind k f rest
@@ -44,6 +47,23 @@ key-ends s pages lists k f head rest key lead r q h e = go r (rw q at e)
     go (Ok (Missing (Key x))) t = record { ended = ended (Ok (P.Free x.place)) t.0; lead = λ y. t.2 ∙ (h y).1; hashed = t.1 }
     go (Ok (Missing (Head x))) t = absurd t
     go (Err why) t = inr (ended (Err why) t)
+
+-- So its hash and its lead are those of the name's key, whatever the answer is.
+pub key-hashed : (s : Sizes) (pages lists : Bytes) (k f : ℕ) (head rest : Bytes) (key lead : Bytes) (x : Sought) (r : Result Search Refusal) → key ≡ key_behind k f rest
+    → ((row k).paired ≡ true → Searched s (row k).heads_at pages lists head (Ok (P.At f)) × (x.lead ≡ fid f))
+    → x.h ≡ fnv_of key
+    → EndsKey s pages lists k key lead r
+    → HashedBy s pages lists k head rest x r
+key-hashed s pages lists k f head rest key lead x r q h n e = go r (rw q at e)
+  where
+    hashed : (p : Result Probe Refusal) → Searched s (row k).main_at pages lists (key_behind k f rest) p → KeyHashed s pages lists k head rest x p
+    hashed p t = record { ended = record { f = f; behind = λ y. (h y).0; searched = t }; lead = λ y. (h y).1; hashed = rw q at n }
+
+    go : (r : Result Search Refusal) → EndsKey s pages lists k (key_behind k f rest) lead r → HashedBy s pages lists k head rest x r
+    go (Ok (Found i)) t = hashed (Ok (P.At i.0)) t
+    go (Ok (Missing (Key y))) t = hashed (Ok (P.Free y.place)) t.0
+    go (Ok (Missing (Head y))) t = absurd t
+    go (Err why) t = inr (hashed (Err why) t)
 
 -- A refusal of the search is number 3.
 pub search-refused : (s : Sizes) (pages lists : Bytes) (k : ℕ) (head rest : Bytes) {why : Refusal} → EndedBy s pages lists k head rest (Err why) → why ≡ Unopened

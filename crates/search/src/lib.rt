@@ -14,6 +14,7 @@ ghost use Rattle.names.specs.Given.{given};
 ghost use Rattle.model.specs.Kinds.{row};
 ghost use Rattle.model.specs.Steps.{shape_refusal};
 ghost use Rattle.search.specs.Found.{EndsKey, EndedBy, SearchEnded, NameSought};
+ghost use Rattle.search.specs.Sought.{HashedBy, SearchHashed};
 
 use blocks::LocalId;
 use bytes_dictionary::EntryId;
@@ -60,11 +61,17 @@ pub enum Search {
 }
 
 // What the search has seen of a name. `found` is Unopened if the memory is no dictionary's. `ascii`: it has seen every byte of the name, and all are ASCII.
+// `h` is the hash of the name's key, and `lead` stands in front of its rest, where the kind has heads. If the search of the head ended it, `headhash` is the head's
+// hash, and there is no key.
 // Kept: `ascii` is a flag. It stands beside any answer and belongs to no other field, so an Option of a field is no plainer.
+// Kept: the key's hash and lead stand here and in its place. The place holds what an add takes, and a name that is found or refused has no place.
 #[derive(Clone, Copy)]
-struct Sought {
-    found: Result<Search, Refusal>,
-    ascii: bool,
+pub struct Sought {
+    pub found: Result<Search, Refusal>,
+    pub ascii: bool,
+    pub lead: Lead,
+    pub h: u32,
+    pub headhash: u32,
 }
 
 // The search for a head of the kind, whose hash is h.
@@ -96,18 +103,35 @@ fn find_key(
     })
 }
 
-// The search for a rest behind the head number f. `bits` are those of the head.
-fn find_behind(memory: &Memory<'_, '_>, kind: Kind, f: usize, bits: u8, rest: &[u8]) -> Sought
+// The answer of a search that has found no head.
+fn headless(found: Result<Search, Refusal>, headhash: u32) -> Sought
+    ensures { (result.found ≡ found) × (result.headhash ≡ headhash) × (result.ascii ≡ false) }
+{
+    Sought {
+        found,
+        ascii: false,
+        lead: Lead::empty(),
+        h: 0,
+        headhash,
+    }
+}
+
+// The search for a rest behind the head number f. The hash and the bits of the head are in `head`.
+fn find_behind(memory: &Memory<'_, '_>, kind: Kind, f: usize, head: Scanned, rest: &[u8]) -> Sought
     requires { (f < memory.now.lists.layout.sizes.e) × (length rest.now ≤ limit memory.now.lists.layout.sizes) }
     ensures found { EndsKey memory.now.lists.layout.sizes memory.now.pages.now memory.now.lists.bytes.now (kind_number kind) (fid f ++ rest.now) (fid f) result.found }
-    ensures ascii { result.ascii ≡ true → bits_from bits rest.now < 128 }
+    ensures placed { (result.lead ≡ fid f) × (result.h ≡ fnv_of (fid f ++ rest.now)) }
+    ensures ascii { result.ascii ≡ true → bits_from head.bits rest.now < 128 }
 {
     let lead = ranked_pair_dictionary::lead_of(f);
-    let x = fnv::scan(fnv::fnv(lead.as_slice()), bits, rest);
+    let x = fnv::scan(fnv::fnv(lead.as_slice()), head.bits, rest);
     let key = Key::behind(Row::of(kind).main, x.h, Part::raw(lead.as_slice()), rest);
     Sought {
         found: find_key(memory, kind, &key, lead),
         ascii: x.bits < 0x80,
+        lead,
+        h: x.h,
+        headhash: head.h,
     }
 }
 
@@ -115,19 +139,19 @@ fn find_behind(memory: &Memory<'_, '_>, kind: Kind, f: usize, bits: u8, rest: &[
 fn find_pair(memory: &Memory<'_, '_>, kind: Kind, head: &[u8], rest: &[u8]) -> Sought
     requires { ((row (kind_number kind)).paired ≡ true) × (length rest.now ≤ limit memory.now.lists.layout.sizes) }
     ensures ended { EndedBy memory.now.lists.layout.sizes memory.now.pages.now memory.now.lists.bytes.now (kind_number kind) head.now rest.now result.found }
+    ensures hashed { HashedBy memory.now.lists.layout.sizes memory.now.pages.now memory.now.lists.bytes.now (kind_number kind) head.now rest.now result result.found }
     ensures ascii { result.ascii ≡ true → bits_from (bits_from 0 head.now) rest.now < 128 }
 {
-    let Scanned { h, bits } = fnv::scan(fnv::START, 0, head);
-    match find_head(memory, kind, h, head) {
-        Ok(Probe::At(f)) => find_behind(memory, kind, f, bits, rest),
-        Ok(Probe::Free(place)) => Sought {
-            found: Ok(Search::Missing(Place::Head(HeadPlace { place, h }))),
-            ascii: false,
-        },
-        Err(why) => Sought {
-            found: Err(why),
-            ascii: false,
-        },
+    let x = fnv::scan(fnv::START, 0, head);
+    match find_head(memory, kind, x.h, head) {
+        Ok(Probe::At(f)) => find_behind(memory, kind, f, x, rest),
+        Ok(Probe::Free(place)) => {
+            headless(
+                Ok(Search::Missing(Place::Head(HeadPlace { place, h: x.h }))),
+                x.h,
+            )
+        }
+        Err(why) => headless(Err(why), x.h),
     }
 }
 
@@ -135,6 +159,7 @@ fn find_pair(memory: &Memory<'_, '_>, kind: Kind, head: &[u8], rest: &[u8]) -> S
 fn find_str(memory: &Memory<'_, '_>, name: &Name<'_>) -> Sought
     requires { (shape_refusal memory.now.lists.layout.sizes (given name.now) ≡ none) × ((row (kind_number name.now.kind)).paired ≡ false) }
     ensures ended { EndedBy memory.now.lists.layout.sizes memory.now.pages.now memory.now.lists.bytes.now (kind_number name.now.kind) [] ((row (kind_number name.now.kind)).rest (given name.now)) result.found }
+    ensures hashed { HashedBy memory.now.lists.layout.sizes memory.now.pages.now memory.now.lists.bytes.now (kind_number name.now.kind) [] ((row (kind_number name.now.kind)).rest (given name.now)) result result.found }
     ensures ascii { result.ascii ≡ true → (is_text name.now.first.now ≡ true) × (is_text name.now.second.now ≡ true) }
 {
     let text = name.first;
@@ -145,13 +170,17 @@ fn find_str(memory: &Memory<'_, '_>, name: &Name<'_>) -> Sought
         found: find_key(memory, name.kind, &key, Lead::empty()),
         // Most labels have a letter that is not ASCII, so a test of the tag would not pay.
         ascii: name.second.len() == 0 && x.bits < 0x80,
+        lead: Lead::empty(),
+        h: x.h,
+        headhash: fnv::START,
     }
 }
 
-// What is found of a name of legal shape. It is right if the text is legal too.
-fn seek(memory: &Memory<'_, '_>, name: &Name<'_>) -> Sought
+// The search for a name of legal shape, whatever its text. The answer is right if the text is legal too.
+pub fn find_name(memory: &Memory<'_, '_>, name: &Name<'_>) -> Sought
     requires { shape_refusal memory.now.lists.layout.sizes (given name.now) ≡ none }
     ensures ended { SearchEnded memory.now.lists.layout.sizes memory.now.pages.now memory.now.lists.bytes.now (given name.now) result.found }
+    ensures hashed { SearchHashed memory.now.lists.layout.sizes memory.now.pages.now memory.now.lists.bytes.now (given name.now) result }
     ensures ascii { result.ascii ≡ true → (is_text name.now.first.now ≡ true) × (is_text name.now.second.now ≡ true) }
 {
     if !Row::of(name.kind).has_heads() {
@@ -164,12 +193,12 @@ fn seek(memory: &Memory<'_, '_>, name: &Name<'_>) -> Sought
 }
 
 // The search for a name of legal shape, and the check of its text.
-pub fn find_name(memory: &Memory<'_, '_>, name: &Name<'_>) -> Result<Search, Refusal>
+pub fn find_legal_name(memory: &Memory<'_, '_>, name: &Name<'_>) -> Result<Search, Refusal>
     requires { shape_refusal memory.now.lists.layout.sizes (given name.now) ≡ none }
     ensures { NameSought memory.now.lists.layout.sizes memory.now.pages.now memory.now.lists.bytes.now (given name.now) result }
 {
     // The text is checked after the search, which does not wait for it.
-    let x = seek(memory, name);
+    let x = find_name(memory, name);
     name.check_text(x.ascii)?;
     x.found
 }

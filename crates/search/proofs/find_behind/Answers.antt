@@ -18,5 +18,10 @@ behind-key-requires-clause-fits c =
     let l = a.memory.now.lists.layout in
     rw c.raw.ensures.stored (omega (arith, length-append c.as_slice-2.result.now a.rest.now, page-size l.sizes l.in_range, limit-fits l.sizes l.in_range))
 
+pub returns-clause-placed : goal.returns-clause-placed
+returns-clause-placed c =
+    let l = c.lead_of-lead.ensures in
+    (l, hash-on _ c.args.rest.now _ _ (c.fnv.ensures ∙ ap fnv_of (c.as_slice.ensures ∙ l)) c.scan-x.ensures.0)
+
 pub returns-clause-ascii : goal.returns-clause-ascii
 returns-clause-ascii c = search rules
