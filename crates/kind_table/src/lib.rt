@@ -1,4 +1,4 @@
-// The code's table of kinds: the row of each kind, and what it says.
+// The code's table of kinds: the row of each kind, and what it says. The functions below the table answer for every number.
 #![tactic(auto)]
 
 ghost use Rattle.std.specs.Prelude.{◌≡◌};
@@ -92,4 +92,39 @@ impl Row {
             Way::Splits | Way::Whole | Way::Pairs => Mode::Raw,
         }
     }
+}
+
+// The kind whose row a number has. A number that is no kind's has the row of the plain strings, as in the model's table.
+pub fn kind_or_plain(number: usize) -> Kind
+    ensures { row (kind_number result) ≡ row number }
+{
+    Kind::try_from(number).unwrap_or(Kind::Plain)
+}
+
+// The row of a kind by its number, for every number.
+pub fn row_of(kind: usize) -> Row
+    ensures { IsRow (row kind) result }
+{
+    Row::of(kind_or_plain(kind))
+}
+
+// Does the first part of a name split into head and rest, by its kind's number?
+pub fn is_split(kind: usize) -> bool
+    ensures { result ≡ is_split (row kind).way }
+{
+    row_of(kind).is_split()
+}
+
+// Does a name have a head, by its kind's number?
+pub fn has_heads(kind: usize) -> bool
+    ensures { result ≡ (row kind).paired }
+{
+    row_of(kind).has_heads()
+}
+
+// How the second part of a name without a head is stored in front of the first, by its kind's number.
+pub fn front_mode(kind: usize) -> Mode
+    ensures { result ≡ front_mode (row kind).way }
+{
+    row_of(kind).front_mode()
 }

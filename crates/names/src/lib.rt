@@ -1,4 +1,5 @@
-// A name's arguments: the check of refusals 4 to 7 in its two halves, where head and rest lie, and the entry of a local number.
+// A name's arguments: the check of refusals 4 to 7 in its two halves, where head and rest lie, and the entry of a local number. The functions below
+// `Name` do for every number as a kind what its methods do for a kind.
 #![tactic(auto)]
 
 ghost use Rattle.std.specs.Prelude.{◌≡◌, true, ◌&&◌, ◌≤◌, length, IfOk};
@@ -130,4 +131,40 @@ impl<'a> Name<'a> {
         }
         &self.first[n..]
     }
+}
+
+// The name of these parts, by its kind's number. A number that is no kind's is taken as that of the plain strings, whose row it has.
+fn named<'a>(kind: usize, first: &'a [u8], second: &'a [u8]) -> Name<'a>
+    ensures rowed { row (kind_number result.kind) ≡ row kind }
+    ensures parts { (result.first.now ≡ first.now) × (result.second.now ≡ second.now) }
+{
+    Name {
+        kind: kind_table::kind_or_plain(kind),
+        first,
+        second,
+    }
+}
+
+// Refusals 6 and 7 of a name, by its kind's number. `ascii`: the caller has seen every byte of the name, and all are ASCII.
+#[tactic(auto, unfolding(model::specs::Steps::text_refusal))]
+pub fn check_text(kind: usize, first: &[u8], second: &[u8], ascii: bool) -> Result<(), Refusal>
+    requires { ascii ≡ true → (is_text first.now ≡ true) × (is_text second.now ≡ true) }
+    ensures { result ≡ checked_by (text_refusal (entered kind first.now second.now)) }
+{
+    named(kind, first, second).check_text(ascii)
+}
+
+// How many bytes of a name's first part are its head, where its kind has heads, by the kind's number.
+pub fn head_length(kind: usize, first: &[u8]) -> usize
+    ensures { (result ≡ head_size kind first.now) × (result ≤ length first.now) }
+{
+    named(kind, first, &[]).head_length()
+}
+
+// What follows a head of n bytes, by the kind's number.
+pub fn rest_behind<'a>(kind: usize, first: &'a [u8], second: &'a [u8], n: usize) -> &'a [u8]
+    requires { n ≤ length first.now }
+    ensures { result.now ≡ rest_behind n kind first.now second.now }
+{
+    named(kind, first, second).rest_behind(n)
 }
