@@ -12,11 +12,13 @@ use Rattle.layout.specs.Sizes.{dictionaries}
 use Rattle.layout.specs.Fields.{count_at, entry_at, size_of}
 use Rattle.refusals.specs.declared.Refusal.{Refusal}
 use Rattle.refusals.specs.declared.Refusal.TheVariants.{Unopened}
+use Rattle.bytes_index.specs.declared.Span.{Span}
 use Rattle.bytes_index.specs.Entries.{address_of, Addresses}
-use Rattle.bytes_index.specs.Field.{entry_bytes}
+use Rattle.bytes_index.specs.Field.{entry_bytes, SpanOf}
 use Rattle.bytes_index.proofs.Stored.{field_in, field_at, field-why, field-ends, addresses-part}
+use Rattle.bytes_index.proofs.Spans.{span_at, bytes-by}
 use Rattle.bytes_dictionary.specs.Store.{Store, StoreAt}
-use Rattle.bytes_dictionary.specs.Reading.{count_in, Lookup, Gives, Looked}
+use Rattle.bytes_dictionary.specs.Reading.{count_in, Lookup, Gives, Looked, SpanLookup, lookup_in, LookedUp}
 use Rattle.bytes_dictionary.proofs.Reading.{count-is}
 
 module _ (s : Sizes) (d i : ℕ) (pages lists : Bytes) (dl : d < dictionaries) where
@@ -73,6 +75,49 @@ module _ (s : Sizes) (d i : ℕ) (pages lists : Bytes) (dl : d < dictionaries) w
               let z : ◌≡◌ {A = ℕ} 0 1 = cc in
               absurd (omega arith);
         }
+
+-- ---- a lookup in the lists alone
+
+module _ (s : Sizes) (d i : ℕ) (lists : Bytes) (dl : d < dictionaries) where
+  pub looked-up-uncounted : (r : SpanLookup) → r ≡ Err Unopened → s.e < word_at lists (count_at d) → LookedUp s d i lists r
+  looked-up-uncounted r e l =
+      rw e record { inside = refl; named = tt; right = λ pages st f S. (looked-uncounted s d i pages lists dl (Err Unopened) refl l).right st S }
+
+  pub looked-up-nothing : word_at lists (count_at d) ≤ i → LookedUp s d i lists (Ok None)
+  looked-up-nothing l = record { inside = tt; named = tt; right = λ pages st f S. (looked-nothing s d i pages lists dl l).right st S }
+
+  module _ (below : i < word_at lists (count_at d)) where
+    pub looked-up-at : (x : Span) → SpanOf s (word_at lists (entry_at s d i)) (Ok x) → LookedUp s d i lists (Ok (Some x))
+    looked-up-at x L =
+        record {
+          inside = L.inside;
+          named = sym L.field;
+          right = λ pages st f S.
+              (looked-at s d i pages lists dl below (take x.len (drop x.at pages)) (sym (bytes-by s pages _ (Ok x) L.field))).right st S;
+        }
+
+    pub looked-up-foreign : (r : SpanLookup) (why : Refusal) → r ≡ Err why → SpanOf s (word_at lists (entry_at s d i)) (Err why) → LookedUp s d i lists r
+    looked-up-foreign r why e L =
+        rw e record {
+          inside = L.inside;
+          named = tt;
+          right = λ pages st f S.
+              (looked-foreign s d i pages lists dl below (Err why) why refl (sym (bytes-by s pages _ (Err why) L.field))).right st S;
+        }
+
+-- What it answers in the pages that are lent.
+pub looked-in : (s : Sizes) (d i : ℕ) (pages lists : Bytes) (r : SpanLookup) → LookedUp s d i lists r → Looked s d i pages lists (lookup_in pages r)
+looked-in s d i pages lists (Ok (Some x)) U =
+    let w : ℕ = word_at lists (entry_at s d i) in
+    let F = span_at s w x U.named in
+    let n : length (take x.len (drop x.at pages)) ≤ x.len = simp length-take (omega arith) in
+    record {
+      inside = omega (arith, n, F.sized, F.inside);
+      named = sym (bytes-by s pages w (Ok x) (sym U.named));
+      right = λ st S. U.right pages st S.header.pages-fit S;
+    }
+looked-in s d i pages lists (Ok None) U = record { inside = tt; named = tt; right = λ st S. U.right pages st S.header.pages-fit S }
+looked-in s d i pages lists (Err why) U = record { inside = U.inside; named = tt; right = λ st S. U.right pages st S.header.pages-fit S }
 
 -- ---- the count of a memory that stands for a store
 

@@ -1,7 +1,7 @@
 -- The stores of an insert put together, for each spot; and the spots that a plan gives. Assumes nothing.
 use Prim.Native.Nat.{ℕ, ◌+◌, ◌*◌, ◌≤◌}
 use mathlib.Core.Path.{◌≡◌, refl}
-use Rattle.std.specs.Prelude.{Ok}
+use Rattle.std.specs.Prelude.{Option, None, Ok}
 use lib.ListN.{length}
 use lib.Seq.{sets}
 use Rattle.slices.specs.Bytes.{Bytes}
@@ -14,7 +14,7 @@ use Rattle.page_words.specs.Written.{extended_page, took_page}
 use Rattle.bytes_buffer.specs.Spots.{InPages}
 use Rattle.layout.specs.declared.packed.Extent.{Extent}
 use Rattle.bytes_entry.specs.Written.{entry_written}
-use Rattle.bytes_dictionary.specs.Written.{pages_after, lists_after, page_at, offset_at, HasRoom}
+use Rattle.bytes_dictionary.specs.Written.{pages_after, lists_after, page_at, offset_at, HasRoom, pages_with, lists_with}
 
 -- ---- the stores
 
@@ -45,6 +45,14 @@ module _ (s : Sizes) (lists : Bytes) (d n place : ℕ) (spot : Spot) (stamp : �
       let a' : lies.page ≡ page = rw e at a in
       let b' : lies.offset ≡ 0 = rw e at b in
       rw e cc
+
+-- At no spot nothing is written.
+module _ (s : Sizes) (pages lists : Bytes) (d n place : ℕ) (spot : Option Spot) (stamp : ℕ) (key : Bytes) where
+  abbrev pub After : Bytes → Bytes → Type 0
+  After pages' lists' = (pages' ≡ pages_with s pages spot key) × (lists' ≡ lists_with s lists d n place spot stamp key)
+
+  pub after_none : spot ≡ None → After pages lists
+  after_none e = rw e (refl, refl)
 
 -- A plan's spot has room for what was planned.
 pub plan-room : (s : Sizes) (u len : ℕ) (spot : Spot) → len ≤ page_size s → InPages s u len (Ok spot) → HasRoom s len spot

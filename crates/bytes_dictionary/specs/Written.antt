@@ -1,5 +1,5 @@
 -- The memory after an insert. Assumes nothing.
-use Rattle.std.specs.Prelude.{ℕ, ◌+◌, ◌*◌, ◌<◌, ◌≤◌, length}
+use Rattle.std.specs.Prelude.{ℕ, ◌+◌, ◌*◌, ◌<◌, ◌≤◌, length, Option, Some, None}
 use Rattle.std.proofs.lemmas.List.Edits.{sets}
 use Rattle.slices.specs.Bytes.{Bytes}
 use Rattle.fnv.specs.Fnv.{fnv_of}
@@ -33,3 +33,17 @@ offset_at (Next page) = 0
 abbrev pub HasRoom : Sizes → ℕ → Spot → Type 0
 HasRoom s len (Current page offset) = (page < s.n) × (offset + len ≤ page_size s)
 HasRoom s len (Next page) = (page < s.n) × (len ≤ page_size s)
+
+-- ---- with a spot or without: without one nothing is written, and no room is needed
+
+abbrev pub pages_with : Sizes → Bytes → Option Spot → Bytes → Bytes
+pages_with s pages (Some spot) key = pages_after s pages spot key
+pages_with s pages None key = pages
+
+abbrev pub lists_with : Sizes → Bytes → ℕ → ℕ → ℕ → Option Spot → ℕ → Bytes → Bytes
+lists_with s lists d n place (Some spot) stamp key = lists_after s lists d n place spot stamp key
+lists_with s lists d n place None stamp key = lists
+
+abbrev pub HasRoomIf : Sizes → ℕ → Option Spot → Type 0
+HasRoomIf s len (Some spot) = HasRoom s len spot
+HasRoomIf s len None = Unit {0}

@@ -3,4 +3,5 @@ pub mod Place
 pub mod Filled
 pub mod Index
 pub mod Stored
+pub mod Spans
 pub mod Inside

@@ -5,13 +5,13 @@ ghost use Rattle.std.specs.Prelude.{◌≡◌, ◌<◌};
 ghost use Rattle.words.specs.Words.{word_at};
 ghost use Rattle.layout.specs.Numbers.{dictionary_number};
 ghost use Rattle.layout.specs.Fields.{entry_at};
-ghost use Rattle.bytes_index.specs.Field.{entry_bytes, entry_in};
+ghost use Rattle.bytes_index.specs.Field.{entry_bytes, entry_in, SpanOf};
 ghost use Rattle.bytes_key.specs.KeyBytes.{bytes_in};
 ghost use Rattle.bytes_index.specs.Search.{Searched};
 
 use bytes_key::{Key, Measured};
 use layout::Dictionary;
-use layout::lent::Memory;
+use layout::lent::{Lists, Memory};
 use layout::packed::{Extent, IndexPlace};
 use refusals::Refusal;
 use words::{QUAD, WORD};
@@ -24,15 +24,22 @@ pub enum Probe {
     Free(usize),
 }
 
-// The bytes of entry i of dictionary d. Unopened: its word is no dictionary's.
+// Where an entry's bytes lie in the pages.
+#[derive(Clone, Copy)]
+pub struct Span {
+    pub at: usize,
+    pub len: usize,
+}
+
+// Where the bytes of entry i of dictionary d lie, which the lists alone say. Unopened: its word is no dictionary's.
 #[tactic(auto, using(crate::proofs::Inside::inside))]
-pub fn entry<'p>(memory: &Memory<'_, 'p>, d: Dictionary, i: usize) -> Result<&'p [u8], Refusal>
-    requires { i < memory.now.lists.layout.sizes.e }
-    ensures { entry_in result ≡ entry_bytes memory.now.lists.layout.sizes memory.now.pages.now (word_at memory.now.lists.bytes.now (entry_at memory.now.lists.layout.sizes (dictionary_number d) i)) }
+pub fn entry_span(lists: &Lists<'_>, d: Dictionary, i: usize) -> Result<Span, Refusal>
+    requires { i < lists.now.layout.sizes.e }
+    ensures { SpanOf lists.now.layout.sizes (word_at lists.now.bytes.now (entry_at lists.now.layout.sizes (dictionary_number d) i)) result }
 {
-    let layout = &memory.lists.layout;
+    let layout = &lists.layout;
     let at = layout.dict_at(usize::from(d));
-    let lies = Extent::from(words::number_at::<WORD>(memory.lists.bytes, at + i));
+    let lies = Extent::from(words::number_at::<WORD>(lists.bytes, at + i));
     let size = layout.page_size();
     if layout.sizes.n <= lies.page {
         return Err(Refusal::Unopened);
@@ -41,7 +48,18 @@ pub fn entry<'p>(memory: &Memory<'_, 'p>, d: Dictionary, i: usize) -> Result<&'p
         return Err(Refusal::Unopened);
     }
     let at = lies.page * size + lies.offset;
-    Ok(&memory.pages[at..at + lies.len])
+    let len = lies.len;
+    Ok(Span { at, len })
+}
+
+// The bytes of entry i of dictionary d. Unopened: its word is no dictionary's.
+pub fn entry<'p>(memory: &Memory<'_, 'p>, d: Dictionary, i: usize) -> Result<&'p [u8], Refusal>
+    requires { i < memory.now.lists.layout.sizes.e }
+    ensures { entry_in result ≡ entry_bytes memory.now.lists.layout.sizes memory.now.pages.now (word_at memory.now.lists.bytes.now (entry_at memory.now.lists.layout.sizes (dictionary_number d) i)) }
+{
+    let span = entry_span(&memory.lists, d, i)?;
+    let end = span.at + span.len;
+    Ok(&memory.pages[span.at..end])
 }
 
 // Searches the index of a key's dictionary. It goes from the key's hash up, over at most 2e places, to the key's entry or the first empty place.

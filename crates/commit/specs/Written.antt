@@ -2,8 +2,7 @@
 use Rattle.std.specs.Prelude.{ℕ, [], length, Option, Some, None}
 use Rattle.slices.specs.Bytes.{Bytes}
 use Rattle.layout.specs.declared.Sizes.{Sizes}
-use Rattle.bytes_buffer.specs.declared.Spot.{Spot}
-use Rattle.bytes_dictionary.specs.Written.{pages_after, lists_after}
+use Rattle.bytes_dictionary.specs.Written.{pages_after, lists_after, pages_with, lists_with}
 use Rattle.blocks.specs.Answers.{block_written}
 use Rattle.model.specs.Kinds.{row}
 use Rattle.plan_room.specs.declared.Head.{Head}
@@ -34,16 +33,6 @@ head_place w = place_in w.head
 
 abbrev pub head_bytes : NewName → Bytes
 head_bytes w = bytes_of_head w.head
-
--- ---- an entry with a spot or without: without one nothing is written
-
-abbrev pub pages_with : Sizes → Bytes → Option Spot → Bytes → Bytes
-pages_with s pages (Some spot) key = pages_after s pages spot key
-pages_with s pages None key = pages
-
-abbrev pub lists_with : Sizes → Bytes → ℕ → ℕ → ℕ → Option Spot → ℕ → Bytes → Bytes
-lists_with s lists d n place (Some spot) stamp key = lists_after s lists d n place spot stamp key
-lists_with s lists d n place None stamp key = lists
 
 -- ---- the head, then the key
 

@@ -10,8 +10,9 @@ ghost use Rattle.bytes_key.specs.KeyBytes.{bytes_in};
 ghost use Rattle.model.specs.Kinds.{row};
 ghost use Rattle.plan.specs.Plans.{PlanFits};
 ghost use Rattle.plan_room.specs.Steps.{is_new, head_number, HeadFits};
+ghost use Rattle.bytes_dictionary.specs.Written.{pages_with, lists_with};
 ghost use Rattle.commit.specs.Answers.{Knows};
-ghost use Rattle.commit.specs.Written.{head_of, head_place, head_bytes, pages_with, lists_with, name_pages, name_lists};
+ghost use Rattle.commit.specs.Written.{head_of, head_place, head_bytes, name_pages, name_lists};
 
 use crate::new_name::NewName;
 use blocks::LocalId;
@@ -56,16 +57,13 @@ fn insert_head(
     let Some(head) = w.head else {
         return;
     };
-    let Some(spot) = x.head else {
-        return;
-    };
     let key = Key::whole(Row::of(w.kind).heads, head.h, head.bytes);
     let entry = NewEntry {
         n: head.f,
         place: head.place,
         stamp: x.stamp,
     };
-    bytes_dictionary::insert(pages, lists, layout, &key, entry, spot);
+    bytes_dictionary::insert_planned(pages, lists, layout, &key, entry, x.head);
 }
 
 // Writes the head, if it is a new one, and the key as they were planned, and gives the name's number.

@@ -20,7 +20,7 @@ use Rattle.bytes_buffer.specs.declared.Spot.{Spot}
 use Rattle.bytes_index.specs.Search.{Searched}
 use Rattle.bytes_index.specs.declared.Probe.TheVariants.{Free}
 use Rattle.bytes_key.specs.KeyBytes.{bytes_in}
-use Rattle.bytes_dictionary.specs.Written.{lists_after}
+use Rattle.bytes_dictionary.specs.Written.{lists_after, pages_with, lists_with}
 use Rattle.model.specs.Names.{Name}
 use Rattle.model.specs.Answers.{AddAnswer}
 use Rattle.model.specs.Kinds.{row}
@@ -39,7 +39,7 @@ use Rattle.names.specs.Given.{given}
 use Rattle.names.specs.declared.Name as Code
 use Rattle.commit.specs.declared.new_name.NewHead.{NewHead}
 use Rattle.commit.specs.declared.new_name.NewName.{NewName}
-use Rattle.commit.specs.Written.{head_in, place_in, bytes_of_head, pages_with, lists_with, name_pages, name_lists}
+use Rattle.commit.specs.Written.{head_in, place_in, bytes_of_head, name_pages, name_lists}
 use Rattle.enter.specs.Added.{CarriedOut, EntersName, AddsName}
 
 -- A fresh number is in its block.
