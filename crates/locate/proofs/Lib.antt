@@ -1,3 +1,5 @@
+pub mod Cuts
+pub mod Lies
 pub mod Pairs
 pub mod Strings
 pub mod Numbers

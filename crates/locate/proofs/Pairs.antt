@@ -10,7 +10,7 @@ use lib.Dec.{leb}
 use lib.ListN.{length, take, drop, length-append, length-drop, take-append-drop}
 use lib.Seq.{drop_at}
 use borrow.Author.Tests.{leb-true}
-use Rattle.std.specs.Prelude.{Some, None, Ok, Err}
+use Rattle.std.specs.Prelude.{Some, None, Result, Ok, Err}
 use Rattle.slices.specs.Bytes.{Bytes}
 use Rattle.slices.proofs.Tests.{Split, split}
 use Rattle.refusals.specs.declared.Refusal.{Refusal}
@@ -20,7 +20,7 @@ use Rattle.ranked_pair_dictionary.specs.FrequentId.{of_be, fid, read_as, read_fu
 use Rattle.ranked_pair_dictionary.proofs.Laws.{fid-read}
 use Rattle.ranked_pair_iri_dv_dict.specs.Split.{head_length}
 use Rattle.layout.specs.declared.Sizes.{Sizes}
-use Rattle.layout.specs.Sizes.{page_size}
+use Rattle.layout.specs.Sizes.{page_bytes}
 use Rattle.layout.specs.Numbers.{kind_number}
 use Rattle.layout.specs.declared.Kind.{Kind}
 use Rattle.layout.proofs.Numbers.{kind-below}
@@ -39,7 +39,8 @@ use Rattle.memory.proofs.Named.{head-entry}
 use Rattle.locate.specs.declared.pieces.Told.{Told}
 use Rattle.locate.specs.declared.pieces.Pieces.{Pieces}
 use Rattle.locate.specs.Copied.{pieces_in}
-use Rattle.locate.specs.Located.{LocatesEntry}
+use Rattle.locate.specs.Located.{EntryIn, stored_bytes, Bounded, located, LocatesEntry}
+use Rattle.locate.proofs.Lies.{looked-in, rest-lies}
 
 -- A frequent id that was read lies in the bytes.
 pub read_fits : (b : Bytes) (x : FrequentId) → read_fid_answer b ≡ Ok x → x.length ≤ length b
@@ -125,21 +126,28 @@ module _ (s : Sizes) (pages lists stored : Bytes) (kind : Kind) (pair : (row (ki
         rw w (head-entry s st pages lists S (kind_number kind) (kind-below kind) pair B.f ((row (kind_number kind)).head a) B.number) in
         rw h at (look.right S.store S.stored)
 
-    pub no-head : Looked s (row (kind_number kind)).heads_at x.value pages lists (Ok None) → LocatesEntry s pages lists (kind_number kind) stored (Err Unopened)
-    no-head look = record { range = refl; right = λ st a S p q old h. head-given st a S (begins st a S q old h) (Ok None) look }
+    -- No state has an entry whose head is missing, so an answer need only be within bounds.
+    pub no-head : Looked s (row (kind_number kind)).heads_at x.value pages lists (Ok None) → (r : Result Pieces Refusal) → Bounded s pages (located r)
+        → LocatesEntry s pages lists (kind_number kind) stored r
+    no-head look r b = record { range = b; right = λ st a S p q old h. absurd (head-given st a S (begins st a S q old h) (Ok None) look) }
 
-    pub located-pair : length stored ≤ page_size s → (head rest : Bytes) (m : ℕ) → rest ≡ drop x.length stored
+    pub located-pair : page_bytes s ≤ length pages → EntryIn s pages stored → (head rest : Bytes) (m : ℕ) → rest ≡ drop x.length stored
         → Looked s (row (kind_number kind)).heads_at x.value pages lists (Ok (Some head)) → Moved (row (kind_number kind)).way (length rest) m
         → (y : Pieces) → y.told ≡ record { kind = kind; first = length head + m; second = length rest - m } → pieces_in y ≡ head ++ rest
+        → y.front.now ≡ head → stored_bytes y.back ≡ rest
         → LocatesEntry s pages lists (kind_number kind) stored (Ok y)
-    located-pair fits head rest m d look M y t b =
+    located-pair there entry head rest m d look M y t b f g =
         let n = x.length in
         let low : m ≤ length rest = moved-le (row (kind_number kind)).way (length rest) m M in
         let l : length rest ≤ length stored = omega (arith, ap length d, length-drop n stored) in
         let i : y.told.first ≡ length head + m = ap (λ (z : Told). z.first) t in
         let j : y.told.second ≡ length rest - m = ap (λ (z : Told). z.second) t in
         record {
-          range = omega (arith, look.inside, i, j, fits);
+          range = record {
+            front = rw f (looked-in s pages there _ _ lists head look).lies;
+            back = rest-lies s pages stored entry.lies n (read_fits stored x e) _ (g ∙ d);
+            small = omega (arith, look.inside, i, j, entry.small);
+          };
           right = λ st a S p q old h.
               let B = begins st a S q old h in
               let w : length (fid B.f) ≡ n = sym (ap (λ (z : FrequentId). z.length) (same-lead B x e)) in

@@ -21,7 +21,6 @@ use Rattle.string_dv_dict_split.proofs.Laws.{pack-unpack}
 use Rattle.string_dv_dict_split.proofs.PackedParts.{split_parts, short-length, long-low}
 use Rattle.string_dv_dict_split.proofs.Splits.{short-form-of, long-form-of}
 use Rattle.layout.specs.declared.Sizes.{Sizes}
-use Rattle.layout.specs.Sizes.{page_size}
 use Rattle.layout.specs.Numbers.{kind_number}
 use Rattle.layout.specs.declared.Kind.{Kind}
 use Rattle.model.specs.Names.{Name}
@@ -32,7 +31,8 @@ use Rattle.model.proofs.Legal.{legal, legal-pair}
 use Rattle.locate.specs.declared.pieces.Told.{Told}
 use Rattle.locate.specs.declared.pieces.Pieces.{Pieces}
 use Rattle.locate.specs.Copied.{pieces_in}
-use Rattle.locate.specs.Located.{LocatesEntry}
+use Rattle.locate.specs.Located.{LiesIn, EntryIn, stored_bytes, LocatesEntry}
+use Rattle.locate.proofs.Lies.{part-lies}
 
 -- Text and tag of a form that was split are no longer than the form.
 pub split-small : (x : Split) → length (text_in x.bytes.now) + length (tag_in x.bytes.now) ≤ length x.bytes.now
@@ -48,27 +48,7 @@ split-small x = go x.form refl
 
 -- ---- the names
 
-module _ (s : Sizes) (pages lists stored : Bytes) (kind : Kind) (fits : length stored ≤ page_size s) where
-  pub located-plain : (row (kind_number kind)).way ≡ whole
-      → (x : Pieces) → x.told ≡ record { kind = kind; first = length stored; second = 0 } → pieces_in x ≡ stored
-      → LocatesEntry s pages lists (kind_number kind) stored (Ok x)
-  located-plain w x t b =
-      let m : x.told.first ≡ length stored = ap (λ (y : Told). y.first) t in
-      let n : x.told.second ≡ 0 = ap (λ (y : Told). y.second) t in
-      record {
-        range = omega (arith, m, n, fits);
-        right = λ st a S p q old h.
-            let v : (row a.kind).way ≡ whole = ap (λ (j : ℕ). (row j).way) q ∙ w in
-            let e : a.second ≡ [] = (legal s a p).shape.second (no_second-row a.kind (ap first_only v)) in
-            let f : stored ≡ a.first = rw v at h in
-            record {
-              kind = ap (λ (y : Told). kind_number y.kind) t ∙ sym q;
-              first = m ∙ ap length f;
-              second = n ∙ sym (ap length e);
-              bytes = b ∙ f ∙ rw e (sym (append-nil a.first));
-            };
-      }
-
+module _ (s : Sizes) (pages lists stored : Bytes) (kind : Kind) where
   -- What the form of a name unpacks to.
   unpacks : (row (kind_number kind)).way ≡ packs → (a : Name) (hs : List Bytes) → checks s a ≡ none → a.kind ≡ kind_number kind → stored ≡ key_of hs a
       → (accepted stored ≡ true) × (text_in stored ≡ a.first) × (tag_in stored ≡ a.second)
@@ -80,20 +60,47 @@ module _ (s : Sizes) (pages lists stored : Bytes) (kind : Kind) (fits : length s
   pub located-cut : (row (kind_number kind)).way ≡ packs → split_of stored ≡ None → LocatesEntry s pages lists (kind_number kind) stored (Err Unopened)
   located-cut w e = record { range = refl; right = λ st a S p q old h. clash (unpacks w a (st.part (kind_number kind)).heads p q h).0 (split_parts stored None e) }
 
-  pub located-tagged : (row (kind_number kind)).way ≡ packs → length (text_in stored) + length (tag_in stored) ≤ length stored
-      → (x : Pieces) → x.told ≡ record { kind = kind; first = length (text_in stored); second = length (tag_in stored) } → pieces_in x ≡ text_in stored ++ tag_in stored
-      → LocatesEntry s pages lists (kind_number kind) stored (Ok x)
-  located-tagged w small x t b =
-      let m : x.told.first ≡ length (text_in stored) = ap (λ (y : Told). y.first) t in
-      let n : x.told.second ≡ length (tag_in stored) = ap (λ (y : Told). y.second) t in
-      record {
-        range = omega (arith, m, n, fits, small);
-        right = λ st a St p q old h.
-            let u = unpacks w a (st.part (kind_number kind)).heads p q h in
-            record {
-              kind = ap (λ (y : Told). kind_number y.kind) t ∙ sym q;
-              first = m ∙ ap length u.1;
-              second = n ∙ ap length u.2;
-              bytes = b ∙ rw (u.1, u.2) refl;
-            };
-      }
+  module _ (entry : EntryIn s pages stored) where
+    pub located-plain : (row (kind_number kind)).way ≡ whole
+        → (x : Pieces) → x.told ≡ record { kind = kind; first = length stored; second = 0 } → pieces_in x ≡ stored
+        → x.front.now ≡ stored → stored_bytes x.back ≡ []
+        → LocatesEntry s pages lists (kind_number kind) stored (Ok x)
+    located-plain w x t b f g =
+        let m : x.told.first ≡ length stored = ap (λ (y : Told). y.first) t in
+        let n : x.told.second ≡ 0 = ap (λ (y : Told). y.second) t in
+        record {
+          range = record {
+            front = rw f entry.lies;
+            back = part-lies s pages stored entry.lies 0 0 (omega arith) _ g;
+            small = omega (arith, m, n, entry.small);
+          };
+          right = λ st a S p q old h.
+              let v : (row a.kind).way ≡ whole = ap (λ (j : ℕ). (row j).way) q ∙ w in
+              let e : a.second ≡ [] = (legal s a p).shape.second (no_second-row a.kind (ap first_only v)) in
+              let i : stored ≡ a.first = rw v at h in
+              record {
+                kind = ap (λ (y : Told). kind_number y.kind) t ∙ sym q;
+                first = m ∙ ap length i;
+                second = n ∙ sym (ap length e);
+                bytes = b ∙ i ∙ rw e (sym (append-nil a.first));
+              };
+        }
+
+    pub located-tagged : (row (kind_number kind)).way ≡ packs → length (text_in stored) + length (tag_in stored) ≤ length stored
+        → (x : Pieces) → x.told ≡ record { kind = kind; first = length (text_in stored); second = length (tag_in stored) } → pieces_in x ≡ text_in stored ++ tag_in stored
+        → LiesIn s pages x.front.now → LiesIn s pages (stored_bytes x.back)
+        → LocatesEntry s pages lists (kind_number kind) stored (Ok x)
+    located-tagged w small x t b f g =
+        let m : x.told.first ≡ length (text_in stored) = ap (λ (y : Told). y.first) t in
+        let n : x.told.second ≡ length (tag_in stored) = ap (λ (y : Told). y.second) t in
+        record {
+          range = record { front = f; back = g; small = omega (arith, m, n, entry.small, small) };
+          right = λ st a St p q old h.
+              let u = unpacks w a (st.part (kind_number kind)).heads p q h in
+              record {
+                kind = ap (λ (y : Told). kind_number y.kind) t ∙ sym q;
+                first = m ∙ ap length u.1;
+                second = n ∙ ap length u.2;
+                bytes = b ∙ rw (u.1, u.2) refl;
+              };
+        }

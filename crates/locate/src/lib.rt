@@ -4,11 +4,10 @@
 pub mod pieces;
 
 ghost use Rattle.std.specs.Prelude.{◌≡◌, true, ◌++◌, ◌+◌, ◌≤◌, length, drop, Ok};
-ghost use Rattle.layout.specs.Sizes.{page_size};
 ghost use Rattle.layout.specs.Numbers.{kind_number};
 ghost use Rattle.model.specs.Kinds.{whole, packs, row};
 ghost use Rattle.locate.specs.Copied.{pieces_in};
-ghost use Rattle.locate.specs.Located.{LocatesEntry, LocatesAlone, LocatesName};
+ghost use Rattle.locate.specs.Located.{EntryIn, LocatesEntry, LocatesAlone, LocatesName};
 
 use crate::pieces::{Pieces, Told};
 use bytes_dictionary::EntryId;
@@ -27,7 +26,7 @@ fn locate_pair<'p>(
     kind: Kind,
     stored: &'p [u8],
 ) -> Result<Pieces<'p>, Refusal>
-    requires { ((row (kind_number kind)).paired ≡ true) × (length stored.now ≤ page_size memory.now.lists.layout.sizes) }
+    requires { ((row (kind_number kind)).paired ≡ true) × EntryIn memory.now.lists.layout.sizes memory.now.pages.now stored.now }
     ensures { LocatesEntry memory.now.lists.layout.sizes memory.now.pages.now memory.now.lists.bytes.now (kind_number kind) stored.now result }
 {
     let row = Row::of(kind);
@@ -93,7 +92,7 @@ fn locate_entry<'p>(
     kind: Kind,
     stored: &'p [u8],
 ) -> Result<Pieces<'p>, Refusal>
-    requires { length stored.now ≤ page_size memory.now.lists.layout.sizes }
+    requires { EntryIn memory.now.lists.layout.sizes memory.now.pages.now stored.now }
     ensures { LocatesEntry memory.now.lists.layout.sizes memory.now.pages.now memory.now.lists.bytes.now (kind_number kind) stored.now result }
 {
     // Kept: a match. The ways are closed, and each needs other facts of the entry; a function in each row of the table would need one contract for all.

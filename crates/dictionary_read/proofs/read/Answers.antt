@@ -41,7 +41,7 @@ pub overflow_add-x : goal.overflow_add-x
 overflow_add-x c =
     let m = c.in_ok-memory.memory in
     let h = located_as m _ c.in_ok-memory.ensures.given (given c.in-Some.is) c.in_ok-x.ensures in
-    omega (arith, h.range, page-size m.lists.layout.sizes m.lists.layout.in_range)
+    omega (arith, h.range.small, page-size m.lists.layout.sizes m.lists.layout.in_range)
 
 pub returns-then-buffer-x : goal.returns-then-buffer-x
 returns-then-buffer-x c =

@@ -10,6 +10,7 @@ use Rattle.bytes_dictionary.specs.Reading.{bytes_lent, Looked}
 use Rattle.meta_dv_dict.specs.declared.Owner.{Owner}
 use Rattle.meta_dv_dict.specs.Answers.{Locals}
 use Rattle.model.specs.Kinds.{row}
+use Rattle.locate.proofs.Lies.{looked-in}
 use Rattle.locate.proofs.Numbers.{located-free, located-entry, located-nothing}
 use Rattle.locate.proofs.locate_name.Goals as goal
 
@@ -22,6 +23,12 @@ looked_as : (s : Sizes) (d k i n : ℕ) (pages lists : Bytes) (o p : Option (Bor
     → Looked s d i pages lists (Ok (bytes_lent o))
     → Looked s (row k).main_at n pages lists (Ok (bytes_lent p))
 looked_as s d k i n pages lists o p e f g h = rw (e, f, g) at h
+
+pub locate_entry-requires : goal.locate_entry-requires
+locate_entry-requires c =
+    let m = c.args.memory.now in
+    looked-in m.lists.layout.sizes m.pages.now m.fit _ _ m.lists.bytes.now _
+    (looked_as m.lists.layout.sizes _ (kind_number c.in-Some.field-0.kind) _ _ m.pages.now m.lists.bytes.now _ _ c.of-d.ensures.main_at c.local_to_entry.ensures c.in-Some-2.is c.in_ok-stored.ensures)
 
 pub returns-in_default : goal.returns-in_default
 returns-in_default c =

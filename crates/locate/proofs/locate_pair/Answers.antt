@@ -1,5 +1,5 @@
 -- The frequent id, then the head that it names. Assumes nothing.
-use Rattle.std.proofs.Common.{◌≡◌, ℕ, ◌-◌, inl, inr, refl, sym, ap, ◌∙◌, length, take, drop}
+use Rattle.std.proofs.Common.{◌≡◌, ℕ, ◌-◌, inl, inr, refl, sym, ap, ◌∙◌, length, take, drop, rules}
 use Rattle.std.specs.Prelude.{Option, Ok}
 use Rattle.std.specs.Borrow.{Bor}
 use Rattle.slices.specs.Bytes.{Bytes}
@@ -26,6 +26,7 @@ returns-in_default-2 c =
     let m = c.args.memory.now in
     no-head m.lists.layout.sizes _ _ _ c.args.kind c.requires.0 _ (sym c.in-Ok.ensures)
     (looked_as m.lists.layout.sizes _ (kind_number c.args.kind) _ m.pages.now m.lists.bytes.now _ _ c.of-row.ensures.heads_at c.in_default-2.is c.in_ok-head.ensures)
+    _ (search rules)
 
 pub slice_bounds-rest-count : goal.slice_bounds-rest-count
 slice_bounds-rest-count c = read_fits c.args.stored.now _ (sym c.in-Ok.ensures)
@@ -45,6 +46,6 @@ returns c =
       | then-is_split w ↦ inl (e ∙ w.if-is_split.true, w.moved-is)
       | else-is_split w ↦ inr (e ∙ w.if-is_split.false, w.moved-is)
     ] in
-    located-pair m.lists.layout.sizes _ _ _ c.args.kind c.requires.0 _ (sym c.in-Ok.ensures) c.requires.1 c.in-Some.head.now rest _ (to_end b n)
+    located-pair m.lists.layout.sizes _ _ _ c.args.kind c.requires.0 _ (sym c.in-Ok.ensures) m.fit c.requires.1 c.in-Some.head.now rest _ (to_end b n)
     (looked_as m.lists.layout.sizes _ (kind_number c.args.kind) _ m.pages.now m.lists.bytes.now _ _ c.of-row.ensures.heads_at c.in-Some.is c.in_ok-head.ensures) moved
-    _ refl refl
+    _ refl refl refl refl
