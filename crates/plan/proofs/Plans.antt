@@ -2,11 +2,12 @@
 use Prim.Native.Nat.{ℕ, ◌≤◌, ◌<◌}
 use mathlib.Core.Path.{◌≡◌, refl, sym, ap, subst, ◌∙◌}
 use mathlib.Core.Logic.{◌⊎◌, inl, inr}
-use mathlib.Core.Bool.{Bool}
+use mathlib.Core.Bool.{Bool, true, false, false≢true}
 use mathlib.Core.Option.{Option, none, some}
 use native.Mathlib.Omega.{arith}
 use lib.ListN.{length}
-use Rattle.std.specs.Prelude.{Result, Ok, Err}
+use Rattle.std.specs.Prelude.{Some, None, is_some, unwrap_or, option_map, Result, Ok, Err}
+use Rattle.std.specs.Option.{option_and}
 use Rattle.std.specs.Prelude as Rust
 use Rattle.slices.specs.Bytes.{Bytes}
 use Rattle.words.specs.Words.{word_at}
@@ -28,8 +29,10 @@ use Rattle.memory.specs.Promises.{NumberWithin}
 use Rattle.memory.proofs.Probes.{main-below, head-below}
 use Rattle.memory.proofs.Counts.{main-counted, next-count, lowest-is-known, spot-pageless}
 use Rattle.plan_room.specs.declared.Chosen.{Chosen}
-use Rattle.plan_room.specs.Steps.{some_spot, head_spot_at, PlansHead, chosen_by, Chooses, count_word, Counts, Uncounted, bad-count, full-list, bad-page}
-use Rattle.plan.specs.Plans.{head_spot, main_spot, NoRoom, full, headless, pageless, blockless, Plans}
+use Rattle.plan_room.specs.declared.Head.{Head}
+use Rattle.plan_room.specs.Steps.{is_new, head_number, head_size, some_spot, head_spot_at, PlansHead, chosen_by, Chooses, count_word, Counts, Uncounted, bad-count, full-list, bad-page}
+use Rattle.plan.specs.declared.Plan.{Plan}
+use Rattle.plan.specs.Plans.{head_spot, main_spot, NoRoom, full, headless, pageless, blockless, Plans, PlansWith}
 
 -- A refusal for want of a page is a plan's refusal.
 page-within : (s : Sizes) (u n : ℕ) (why : Refusal) → InPages s u n (Err why) → (why ≡ W.Unopened) ⊎ NumberWithin 8 10 why
@@ -158,3 +161,55 @@ module _ (s : Sizes) (lists : Bytes) (k : ℕ) (new : Bool) (f size len : ℕ) (
               go : (t : ℕ) (o : Option ℕ) → ◌≡◌ {A = Result Chosen Refusal} (Ok x) (chosen_by t o) → (o ≡ some x.g) × (x.stamp ≡ t)
               go t none c = let z : ◌≡◌ {A = ℕ} 0 1 = cc in absurd (omega arith)
               go t (some h) c = let q : x ≡ record { g = h; stamp = t } = cc in (ap some (sym (ap (λ (y : Chosen). y.g) q)), ap (λ (y : Chosen). y.stamp) q)
+
+-- ---- a head with a number, and with a size if it is a new one
+
+-- The head has the size n, or it is not a new one.
+abbrev pub MayHave : Rust.Option ℕ → ℕ → Type 0
+MayHave (Some x) n = x ≡ n
+MayHave None n = Unit {0}
+
+-- The plan for each size that the head may have.
+pub plans-with : (s : Sizes) (lists : Bytes) (k f : ℕ) (size : Rust.Option ℕ) (len : ℕ) (r : Result Plan Refusal)
+    → ((n : ℕ) → MayHave size n → Plans s lists k (is_some size) f n len r)
+    → PlansWith s lists k f size len r
+plans-with s lists k f (Some x) len r h = h x refl
+plans-with s lists k f None len r h = λ n. h n tt
+
+-- Where no head is new, its size is no matter.
+unsized : (s : Sizes) (lists : Bytes) (k u m n : ℕ) (r : Result (Rust.Option Spot) Refusal) → PlansHead s lists k false u m r → PlansHead s lists k false u n r
+unsized s lists k u m n (Ok None) H = H
+unsized s lists k u m n (Ok (Some spot)) H = absurd (false≢true H.1.0)
+unsized s lists k u m n (Err why) H = absurd (false≢true H.0)
+
+-- The head that is planned for fits a page, and what was planned for it is the plan for the head's size.
+pub head-paged : (m : ℕ) (size : Rust.Option ℕ) (x : Head) (head : Rust.Option Head) → x.size ≡ unwrap_or size 0 → head ≡ option_and size (Some x)
+    → unwrap_or size 0 ≤ m
+    → head_size head ≤ m
+head-paged m (Some y) x head p e h = subst (λ (h : Rust.Option Head). head_size h ≤ m) (sym e) (omega arith)
+head-paged m None x head p e h = subst (λ (h : Rust.Option Head). head_size h ≤ m) (sym e) h
+
+pub head-sized : (s : Sizes) (lists : Bytes) (k u n : ℕ) (size : Rust.Option ℕ) (x : Head) (head : Rust.Option Head) (r : Result (Rust.Option Spot) Refusal)
+    → x.size ≡ unwrap_or size 0
+    → head ≡ option_and size (Some x)
+    → MayHave size n
+    → PlansHead s lists k (is_new head) u (head_size head) r
+    → PlansHead s lists k (is_some size) u n r
+head-sized s lists k u n (Some y) x head r p e q H =
+    subst (λ (m : ℕ). PlansHead s lists k true u m r) (p ∙ q) (subst (λ (h : Rust.Option Head). PlansHead s lists k (is_new h) u (head_size h) r) e H)
+head-sized s lists k u n None x head r p e q H =
+    unsized s lists k u 0 n r (subst (λ (h : Rust.Option Head). PlansHead s lists k (is_new h) u (head_size h) r) e H)
+
+abbrev pub size_of : Head → ℕ
+size_of x = x.size
+
+-- The plan for a head, from its number and its size.
+pub plans-named : (s : Sizes) (lists : Bytes) (k f : ℕ) (size : Rust.Option ℕ) (head : Rust.Option Head) (len : ℕ) (r : Result Plan Refusal)
+    → f ≡ head_number head
+    → size ≡ option_map size_of head
+    → PlansWith s lists k f size len r
+    → Plans s lists k (is_new head) (head_number head) (head_size head) len r
+plans-named s lists k f size (Some x) len r p e H =
+    subst (λ (v : ℕ). Plans s lists k true v x.size len r) p (subst (λ (z : Rust.Option ℕ). PlansWith s lists k f z len r) e H)
+plans-named s lists k f size None len r p e H =
+    subst (λ (v : ℕ). Plans s lists k false v 0 len r) p (subst (λ (z : Rust.Option ℕ). PlansWith s lists k f z len r) e H 0)

@@ -1,6 +1,6 @@
 -- The plan of an add, of a new head and its name or of a name alone: within bounds on any memory, and as document 01 has it on memory that stands for a state.
 -- Assumes nothing.
-use Rattle.std.specs.Prelude.{ℕ, ◌*◌, ◌/◌, ◌^◌, ◌≤◌, ◌<◌, ◌≡◌, ◌⊎◌, Bool, true, length, Result, Ok, Err}
+use Rattle.std.specs.Prelude.{ℕ, ◌*◌, ◌/◌, ◌^◌, ◌≤◌, ◌<◌, ◌≡◌, ◌⊎◌, Bool, true, false, length, Some, None, Result, Ok, Err}
 use Rattle.std.specs.Prelude as Rust
 use Rattle.std.proofs.Math.Option.{none, some}
 use Rattle.slices.specs.Bytes.{Bytes}
@@ -76,3 +76,8 @@ PlanBounded s new f size len (Err why) = (why ≡ W.Unopened) ⊎ NumberWithin 8
 pub record Plans (s : Sizes) (lists : Bytes) (k : ℕ) (new : Bool) (f size len : ℕ) (r : Result Plan Refusal) : Type 0 where
   pub bounded : PlanBounded s new f size len r
   pub right : (pages : Bytes) (st : State) → Stands s st pages lists → PlanSays s st lists k new f size len r
+
+-- A plan by the head's number and size. Without a size the head is not a new one, and its size may be any.
+abbrev pub PlansWith : Sizes → Bytes → ℕ → ℕ → Rust.Option ℕ → ℕ → Result Plan Refusal → Type 0
+PlansWith s lists k f (Some size) len r = Plans s lists k true f size len r
+PlansWith s lists k f None len r = (size : ℕ) → Plans s lists k false f size len r
