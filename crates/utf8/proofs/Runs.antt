@@ -1,13 +1,13 @@
 -- Whole characters of two or three bytes, if their first byte allows all tail bytes. Passing whole characters changes nothing. Assumes nothing.
 use Prim.Native.Nat.{ℕ, zero, suc, ◌+◌, ◌-◌, ◌≤◌, ◌<◌}
-use mathlib.Core.Path.{◌≡◌, refl, sym, ap, ◌∙◌}
-use mathlib.Core.Bool.{true, ◌&&◌}
+use mathlib.Core.Path.{◌≡◌, refl, sym, ap, subst, ◌∙◌}
+use mathlib.Core.Bool.{Bool, true, false, ◌&&◌}
 use mathlib.Core.List.{[], ◌∷◌, ◌++◌}
 use native.Mathlib.Omega.{arith}
 use lib.Dec.{ltb}
 use lib.ListN.{length, get_or, take, drop, take-append-drop, length-drop}
 use lib.Seq.{take_all, drop-cons}
-use Rattle.std.proofs.lemmas.List.{drop-drop, length-take-le}
+use Rattle.std.proofs.lemmas.List.{drop-drop}
 use Rattle.std.specs.Array.{IsFirstChunk}
 use Rattle.std.specs.Prelude.{All}
 use borrow.Author.Tests.{ne_eqb, ltb-true}
@@ -43,19 +43,22 @@ char-characters lo hi (b ∷ c) f e = λ rest.
     let m : suc (length c) - 1 ≡ length c = omega arith in
     ap (λ (x : Step). text_from x (c ++ rest)) (rw m at (f b e.0)) ∙ tails c rest e.1
 
-pub chunk-length : (n : ℕ) (xs ys : Bytes) → IsFirstChunk xs ys n → length ys ≡ n
-chunk-length n xs ys c = rw c.same (length-take-le n xs c.enough)
+-- The next n bytes stand at k.
+pub chunk-at : (n : ℕ) (s bytes : Bytes) (k : ℕ) → k ≤ length s → IsFirstChunk (take (length s - k) (drop k s)) bytes n
+    → (k + n ≤ length s) × (bytes ≡ take n (drop k s))
+chunk-at n s bytes k p c =
+    let w : take (length s - k) (drop k s) ≡ drop k s = take_all (length s - k) (drop k s) (omega (arith, length-drop k s)) in
+    let l : n ≤ length (drop k s) = rw w at c.enough in
+    (omega (arith, p, length-drop k s), rw w at c.same)
 
 -- The next n bytes are whole characters.
 pub pass-chunk : (n : ℕ) (s bytes : Bytes) (i k : ℕ) → Passed s i k → IsFirstChunk (take (length s - k) (drop k s)) bytes n → Characters bytes
     → Passed s i (k + n)
 pass-chunk n s bytes i k p c f =
-    let w : take (length s - k) (drop k s) ≡ drop k s = take_all (length s - k) (drop k s) (omega (arith, length-drop k s)) in
-    let l : n ≤ length (drop k s) = rw w at c.enough in
-    let b : bytes ≡ take n (drop k s) = rw w at c.same in
-    let q : bytes ++ drop (k + n) s ≡ drop k s = rw (b, ← drop-drop n k s) (take-append-drop n (drop k s)) in
+    let h = chunk-at n s bytes k p.1 c in
+    let q : bytes ++ drop (k + n) s ≡ drop k s = rw (h.1, ← drop-drop n k s) (take-append-drop n (drop k s)) in
     let e = f (drop (k + n) s) in
-    (omega (arith, p.0), omega (arith, p.1, length-drop k s), sym (rw q at e) ∙ p.2)
+    (omega (arith, p.0), h.0, sym (rw q at e) ∙ p.2)
 
 -- ---- one character of two or of three bytes
 
@@ -73,6 +76,35 @@ all_cons b c t a (suc k) d h = a k d (omega (arith, h))
 first_dropped : (s : Bytes) (j k : ℕ) → j < length s → suc j ≡ k → drop j s ≡ get_or s j 0 ∷ drop k s
 first_dropped s j k h p = drop-cons s j 0 h ∙ ap (λ (n : ℕ). get_or s j 0 ∷ drop n s) p
 
+two_bytes : (s : Bytes) (i : ℕ) → i + 2 ≤ length s → drop i s ≡ get_or s i 0 ∷ get_or s (i + 1) 0 ∷ drop (i + 2) s
+two_bytes s i h =
+    first_dropped s i (i + 1) (omega arith) (omega arith)
+    ∙ ap (λ (r : Bytes). get_or s i 0 ∷ r) (first_dropped s (i + 1) (i + 2) (omega arith) (omega arith))
+
+three_bytes : (s : Bytes) (i : ℕ) → i + 3 ≤ length s → drop i s ≡ get_or s i 0 ∷ get_or s (i + 1) 0 ∷ get_or s (i + 2) 0 ∷ drop (i + 3) s
+three_bytes s i h =
+    two_bytes s i (omega arith)
+    ∙ ap (λ (r : Bytes). get_or s i 0 ∷ get_or s (i + 1) 0 ∷ r) (first_dropped s (i + 2) (i + 3) (omega arith) (omega arith))
+
+both : (a b : Bool) → a ≡ true → b ≡ true → (a && b) ≡ true
+both true b p q = q
+both false b p q = p
+
+-- A first byte from lo to hi and one tail byte meet the tests of `pass-two`, if it has the same bounds.
+pub two-within : (lo hi : ℕ) (s : Bytes) (i : ℕ) → i + 2 ≤ length s → IsChar lo hi (take 2 (drop i s))
+    → (within lo hi (get_or s i 0) && within 0x80 0xBF (get_or s (i + 1) 0)) ≡ true
+two-within lo hi s i h e =
+    let c = subst (λ (r : Bytes). IsChar lo hi (take 2 r)) (two_bytes s i h) e in
+    both _ _ (inside lo hi (get_or s i 0) c.0) (inside 0x80 0xBF (get_or s (i + 1) 0) (c.1 0 0 (omega arith)))
+
+-- A first byte from lo to hi and two tail bytes meet those of `pass-three`.
+pub three-within : (lo hi : ℕ) (s : Bytes) (i : ℕ) → i + 3 ≤ length s → IsChar lo hi (take 3 (drop i s))
+    → (within lo hi (get_or s i 0) && within 0x80 0xBF (get_or s (i + 1) 0) && within 0x80 0xBF (get_or s (i + 2) 0)) ≡ true
+three-within lo hi s i h e =
+    let c = subst (λ (r : Bytes). IsChar lo hi (take 3 r)) (three_bytes s i h) e in
+    both _ _ (both _ _ (inside lo hi (get_or s i 0) c.0) (inside 0x80 0xBF (get_or s (i + 1) 0) (c.1 0 0 (omega arith))))
+    (inside 0x80 0xBF (get_or s (i + 2) 0) (c.1 1 0 (omega arith)))
+
 pub pass-two : (s : Bytes) (i : ℕ) → i + 2 ≤ length s → (within 0xC2 0xDF (get_or s i 0) && within 0x80 0xBF (get_or s (i + 1) 0)) ≡ true
     → Passed s i (i + 2)
 pass-two s i h e =
@@ -80,8 +112,7 @@ pass-two s i h e =
     let b = get_or s (i + 1) 0 in
     let x = bounds 0xC2 0xDF a (and_left _ _ e) in
     let y = bounds 0x80 0xBF b (and_right _ _ e) in
-    let d = first_dropped s i (i + 1) (omega arith) (omega arith) ∙ ap (λ (r : Bytes). a ∷ r) (first_dropped s (i + 1) (i + 2) (omega arith) (omega arith)) in
-    pass-at s (a ∷ b ∷ []) i (i + 2) (omega arith) h d
+    pass-at s (a ∷ b ∷ []) i (i + 2) (omega arith) h (two_bytes s i h)
     (char-characters 0xC2 0xDF (a ∷ b ∷ []) first_two (x, all_cons b [] y all_nil))
 
 pub pass-three : (s : Bytes) (i : ℕ) → i + 3 ≤ length s
@@ -95,7 +126,5 @@ pass-three s i h e =
     let x = bounds 0xE1 0xEC a (and_left _ _ ab) in
     let y = bounds 0x80 0xBF b (and_right _ _ ab) in
     let z = bounds 0x80 0xBF c (and_right _ _ e) in
-    let d = first_dropped s i (i + 1) (omega arith) (omega arith) ∙ ap (λ (r : Bytes). a ∷ r) (first_dropped s (i + 1) (i + 2) (omega arith) (omega arith))
-    ∙ ap (λ (r : Bytes). a ∷ b ∷ r) (first_dropped s (i + 2) (i + 3) (omega arith) (omega arith)) in
-    pass-at s (a ∷ b ∷ c ∷ []) i (i + 3) (omega arith) h d
+    pass-at s (a ∷ b ∷ c ∷ []) i (i + 3) (omega arith) h (three_bytes s i h)
     (char-characters 0xE1 0xEC (a ∷ b ∷ c ∷ []) first-e1-ec (x, all_cons b (c ∷ []) y (all_cons c [] z all_nil)))

@@ -1,9 +1,9 @@
 // Whether a run of bytes is UTF-8 by RFC 3629. Runs of characters are passed fast, the other characters one by one.
 #![tactic(auto)]
 
-ghost use Rattle.std.specs.Prelude.{◌≡◌, ◌↔◌, ◌-◌, ◌^◌, ◌≤◌, ◌<◌, ℕ, length, IsTrue, All};
-ghost use Rattle.utf8_char.specs.Grammar.{In, Tail};
-ghost use Rattle.utf8_char.specs.Text.{awaiting, first_of, is_text};
+ghost use Rattle.std.specs.Prelude.{◌≡◌, ◌↔◌, ◌+◌, ◌^◌, ◌≤◌, ◌<◌, ℕ, length, take, drop, IsTrue, All};
+ghost use Rattle.utf8_char.specs.Grammar.{Tail};
+ghost use Rattle.utf8_char.specs.Text.{is_text};
 ghost use Rattle.utf8.specs.Passing.{ascii, IsChar, Passed};
 
 use words::{TOP_BITS, WORD};
@@ -75,12 +75,12 @@ fn is_char(bytes: &[u8], lo: u8, hi: u8) -> bool
     }
 }
 
-// Passes characters of N bytes from i on, as long as their first byte is from `lo` to `hi`, which allows all tail bytes.
-// Kept: apart from `pass_words`, which also looks at the last eight bytes again. `lo` and `hi` are two numbers, for the clause `tails` speaks of both.
+// Passes characters of N bytes from i on, as long as their first byte is from `lo` to `hi`, which allows all tail bytes: the clause `passes` asks for that.
+// Kept: apart from `pass_words`, which also looks at the last eight bytes again. `lo` and `hi` are two numbers, for the clause `passes` speaks of both.
 fn pass_chars<const N: usize>(s: &[u8], i: usize, lo: u8, hi: u8) -> usize
     requires within { i ≤ length s.now }
     requires size { (0 < N) × (N < 2 ^ 63) }
-    requires tails { (b : ℕ) → In lo hi b → first_of b ≡ awaiting (N - 1) 0x80 0xBF }
+    requires passes { (k : ℕ) → k + N ≤ length s.now → IsChar lo hi (take N (drop k s.now)) → Passed s.now k (k + N) }
     ensures { Passed s.now i result }
 {
     let mut k = i;

@@ -3,7 +3,7 @@ use Rattle.std.proofs.Common.{◌≡◌, true, [], ◌∷◌, length, sym, refl,
 use borrow.Author.Tests.{eqb-true}
 use Rattle.slices.specs.Bytes.{Bytes}
 use Rattle.utf8_char.specs.Text.{is_text}
-use Rattle.utf8_char.proofs.Bounds.{first_two, first-e1-ec}
+use Rattle.utf8.proofs.Runs.{two-within, three-within, pass-two, pass-three}
 use Rattle.utf8.proofs.is_text.Goals as goal
 
 empty : (s : Bytes) → length s ≡ 0 → true ≡ is_text s
@@ -18,8 +18,9 @@ pub loop-i-init : goal.loop-i-init
 unfolding is_text
 loop-i-init c = record { within = c.pass_ascii-i.ensures.1; same = c.pass_ascii-i.ensures.2 }
 
-pub pass_chars-twos-requires-clause-tails : goal.pass_chars-twos-requires-clause-tails
-pass_chars-twos-requires-clause-tails c = first_two
+-- Characters of two bytes are passed by `pass-two`, and those of three by `pass-three`.
+pub pass_chars-twos-requires-clause-passes : goal.pass_chars-twos-requires-clause-passes
+pass_chars-twos-requires-clause-passes c = λ k h e. pass-two c.args.s.now k h (two-within 0xC2 0xDF c.args.s.now k h e)
 
-pub pass_chars-j-requires-clause-tails : goal.pass_chars-j-requires-clause-tails
-pass_chars-j-requires-clause-tails c = first-e1-ec
+pub pass_chars-j-requires-clause-passes : goal.pass_chars-j-requires-clause-passes
+pass_chars-j-requires-clause-passes c = λ k h e. pass-three c.args.s.now k h (three-within 0xE1 0xEC c.args.s.now k h e)
