@@ -1,6 +1,9 @@
 // The entry that adds a name to the dictionary in lent memory. It takes any memory and any arguments, and answers or refuses as document 01 says.
 #![tactic(auto)]
 
+#[cfg(test)]
+mod tests;
+
 ghost use Rattle.model.specs.Names.{entered};
 ghost use Rattle.memory.specs.Promises.{AddPost};
 ghost use Rattle.commit.specs.Answers.{added_by};
@@ -23,7 +26,7 @@ pub fn add<'a>(
     let memory = header::check_header(pages, lists)?;
     let layout = memory.lists.layout;
     let name = Name::new(layout.sizes, kind, first, second)?;
-    let found = search::find_legal_name(&memory, &name)?;
+    let found = search::find_name(&memory, &name)?;
     match &found {
         Search::Found(local) => commit::known(&memory.lists, name.kind, *local),
         Search::Missing(place) => enter::add_name(pages, lists, &layout, &name, place),

@@ -22,7 +22,7 @@ pub fn find<'a>(
 {
     let memory = header::check_header(pages, lists)?;
     let name = Name::new(memory.lists.layout.sizes, kind, first, second)?;
-    let found = search::find_legal_name(&memory, &name)?;
+    let found = search::find_name(&memory, &name)?;
     match found {
         Search::Found(local) => {
             let number = meta_dv_dict::local_to_global(&memory.lists, name.kind, local)?;

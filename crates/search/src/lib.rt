@@ -177,7 +177,7 @@ fn find_str(memory: &Memory<'_, '_>, name: &Name<'_>) -> Sought
 }
 
 // The search for a name of legal shape, whatever its text. The answer is right if the text is legal too.
-pub fn find_name(memory: &Memory<'_, '_>, name: &Name<'_>) -> Sought
+pub fn seek(memory: &Memory<'_, '_>, name: &Name<'_>) -> Sought
     requires { shape_refusal memory.now.lists.layout.sizes (given name.now) ≡ none }
     ensures ended { SearchEnded memory.now.lists.layout.sizes memory.now.pages.now memory.now.lists.bytes.now (given name.now) result.found }
     ensures hashed { SearchHashed memory.now.lists.layout.sizes memory.now.pages.now memory.now.lists.bytes.now (given name.now) result }
@@ -193,12 +193,12 @@ pub fn find_name(memory: &Memory<'_, '_>, name: &Name<'_>) -> Sought
 }
 
 // The search for a name of legal shape, and the check of its text.
-pub fn find_legal_name(memory: &Memory<'_, '_>, name: &Name<'_>) -> Result<Search, Refusal>
+pub fn find_name(memory: &Memory<'_, '_>, name: &Name<'_>) -> Result<Search, Refusal>
     requires { shape_refusal memory.now.lists.layout.sizes (given name.now) ≡ none }
     ensures { NameSought memory.now.lists.layout.sizes memory.now.pages.now memory.now.lists.bytes.now (given name.now) result }
 {
     // The text is checked after the search, which does not wait for it.
-    let x = find_name(memory, name);
+    let x = seek(memory, name);
     name.check_text(x.ascii)?;
     x.found
 }

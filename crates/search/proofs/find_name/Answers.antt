@@ -1,27 +1,27 @@
--- A string is searched by its key, any other name by its head and its rest. Assumes nothing.
-use Rattle.std.proofs.Common.{sym, ap, ◌∙◌}
-use Rattle.layout.specs.Sizes.{limit}
-use Rattle.layout.specs.Numbers.{kind_number}
-use Rattle.model.specs.Kinds.{has_heads}
-use Rattle.model.proofs.Legal.{legal-shape}
-use Rattle.names.specs.Given.{given}
-use Rattle.names.proofs.Second.{shape-second}
-use Rattle.names.proofs.Pairs.{rest-short}
-use Rattle.search.proofs.Ascii.{pair-ascii}
+-- The text decides first, then the search. Assumes nothing.
+use Rattle.std.proofs.Common.{◌≡◌, inl, inr, sym}
+use Rattle.std.specs.Prelude.{Result, Ok, Err}
+use Rattle.std.proofs.Math.Option.{none}
+use Rattle.std.proofs.lemmas.Result.{err_from_is_err_and}
+use Rattle.slices.specs.Bytes.{Bytes}
+use Rattle.refusals.specs.declared.Refusal.{Refusal}
+use Rattle.refusals.proofs.Told.{told-legal, told-illegal}
+use Rattle.layout.specs.declared.Sizes.{Sizes}
+use Rattle.model.specs.Names.{Name}
+use Rattle.model.specs.Steps.{text_refusal}
+use Rattle.search.specs.declared.Search.{Search}
+use Rattle.search.specs.Found.{SearchEnded, NameSought}
 use Rattle.search.proofs.find_name.Goals as goal
 
-pub find_pair-requires : goal.find_pair-requires
-find_pair-requires c =
-    let n = c.args.name.now in
-    let l = (legal-shape _ _ c.requires).size in (
-      sym (c.has_heads.ensures ∙ ap has_heads c.of.ensures.way) ∙ c.if-not-has_heads.false,
-      rest-short (kind_number n.kind) n.first.now n.second.now _ c.head_length-n.result (limit c.args.memory.now.lists.layout.sizes) c.rest_behind-rest.ensures l,
-    )
+-- What was found of a name whose text is legal.
+sought : (s : Sizes) (pages lists : Bytes) (a : Name) (r : Result Search Refusal) → text_refusal a ≡ none → SearchEnded s pages lists a r → NameSought s pages lists a r
+sought s pages lists a (Ok x) h e = (h, e)
+sought s pages lists a (Err why) h e = inr (h, e)
 
-pub returns-clause-ascii : goal.returns-clause-ascii
-returns-clause-ascii c =
-    let n = c.args.name.now in
-    λ q.
-    pair-ascii (kind_number n.kind) n.first.now n.second.now _ c.head_length-n.result c.head_length-n.ensures.0 c.head_length-n.ensures.1 c.rest_behind-rest.ensures
-    (shape-second c.args.memory.now.lists.layout.sizes (given n) c.requires)
-    (c.find_pair.ensures.ascii q)
+pub returns-in_err-check_text : goal.returns-in_err-check_text
+returns-in_err-check_text c =
+    let p = err_from_is_err_and c.from_residual.result c.from_residual.ensures.1 in
+    rw (p.1, p.2) (inl (told-illegal _ _ (sym c.in_err-check_text.ensures)))
+
+pub returns : goal.returns
+returns c = sought _ _ _ _ _ (told-legal _ (sym c.in_ok-check_text.ensures)) c.seek-x.ensures.ended
