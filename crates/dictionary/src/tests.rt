@@ -8,7 +8,7 @@ use refusals::Refusal;
 use search::{Place, Search};
 use std::test::Fail;
 
-// The memory of six pages of 8,192 bytes, six dictionaries of four entries, and four blocks.
+// The memory of six pages of 8,192 bytes, six dictionaries of four entries, and four blocks, as document 01 counts it.
 const PAGES: usize = 6 * 8192;
 
 const LISTS: usize = 8 * (64 + 6 + 18 * 4 + 5 * 4);
@@ -32,7 +32,7 @@ fn empty() -> Result<[u8; LISTS], Refusal> {
     Ok(lists)
 }
 
-// The answer of a test: what does not hold is told.
+// Ends a test with these words, unless it is so.
 fn holds(is_so: bool, what: &'static str) -> Result<(), &'static str> {
     if is_so {
         return Ok(());
